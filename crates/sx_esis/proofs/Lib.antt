@@ -1,0 +1,6 @@
+pub mod Cuts
+pub mod Grow
+pub mod NextLemmas
+pub mod ReaderLemmas
+pub mod FormLemmas
+pub mod BufferLemmas

@@ -1,0 +1,76 @@
+-- What a reader of lines answers.
+use Rattle.std.specs.Prelude.{◌≡◌, ℕ, ◌+◌, ◌-◌, ◌^◌, ◌<◌, min, Bool, true, List, length, Option, Some, None, Result, Ok, Err, IsSome}
+use Rattle.std.specs.List.{slice_get}
+use Rattle.sx_esis.specs.declared.reader.LineReader.{LineReader}
+use Rattle.sx_esis.specs.declared.reader.LineFault.{LineFault}
+use Rattle.sx_esis.specs.declared.reader.LineView.{LineView}
+use Rattle.sx_esis.specs.declared.reader.LineView.TheVariants.{Start, End, Text, Conforming}
+use Rattle.sx_esis.specs.Lines.{Line, starts, ends, says, conforms, Reading, lines_of, line_within}
+use Rattle.sx_esis.specs.Buffered.{taken_line}
+use Rattle.sx_esis.specs.Stands.{Stands, line_shown, unread}
+
+-- the line that a view shows
+abbrev pub view_line : LineView → Line
+view_line (Start name) = starts name.now
+view_line (End name) = ends name.now
+view_line (Text text) = says text.now
+view_line Conforming = conforms
+
+-- All that can be read was given, and it is not at fault.
+pub record GaveAll (reading : Reading) (given : ℕ) : Type 0 where
+  pub all : given ≡ length reading.lines
+  pub sound : reading.fault ≡ None
+
+-- Behind the lines given comes the one at fault, which the fault names by its number.
+pub record GivesFault (reading : Reading) (bytes : List ℕ) (given : ℕ) (f : LineFault) : Type 0 where
+  pub all : given ≡ length reading.lines
+  pub fault : reading.fault ≡ Some (given + 1)
+  pub number : length bytes < 2 ^ 62 → f.line ≡ given + 1
+
+-- The reader went on to the line behind those given and shows it, or it gave all, or it met the fault.
+abbrev pub Advances : ℕ → List ℕ → Bool → ℕ → LineReader → Option (Result Unit LineFault) → Type 0
+Advances limit bytes ended given new None = GaveAll (lines_of limit bytes ended) given × Stands new limit bytes ended given
+Advances limit bytes ended given new (Some (Ok done)) = (line_shown new ≡ slice_get (lines_of limit bytes ended).lines given) × Stands new limit bytes ended (given + 1)
+Advances limit bytes ended given new (Some (Err f)) = GivesFault (lines_of limit bytes ended) bytes given f × Stands new limit bytes ended given
+
+-- The reader gave the line behind those given before, or it gave all, or it met the fault.
+abbrev pub Gives : ℕ → List ℕ → Bool → ℕ → LineReader → Option (Result LineView LineFault) → Type 0
+Gives limit bytes ended given new None = GaveAll (lines_of limit bytes ended) given × Stands new limit bytes ended given
+Gives limit bytes ended given new (Some (Ok view)) = (slice_get (lines_of limit bytes ended).lines given ≡ Some (view_line view)) × Stands new limit bytes ended (given + 1)
+Gives limit bytes ended given new (Some (Err f)) = GivesFault (lines_of limit bytes ended) bytes given f × Stands new limit bytes ended given
+
+-- An answer with a line.
+abbrev pub IsLineGiven : {T : Type 0} → Option (Result T LineFault) → Type 0
+IsLineGiven None = ⊥
+IsLineGiven (Some (Ok done)) = Unit {0}
+IsLineGiven (Some (Err f)) = ⊥
+
+-- What a reader becomes that gave this answer.
+pub record Follows (old : LineReader) (result : Option (Result LineView LineFault)) (new : LineReader) : Type 0 where
+  pub gives : (limit : ℕ) (bytes : List ℕ) (ended : Bool) (given : ℕ) → Stands old limit bytes ended given → Gives limit bytes ended given new result
+  pub progress : IsLineGiven result → unread new < unread old
+
+-- All but the line's number and what is known of a fault stays.
+pub record Keeps (old new : LineReader) : Type 0 where
+  pub buffer : new.buffer ≡ old.buffer
+  pub limit : new.limit ≡ old.limit
+  pub ended : new.ended ≡ old.ended
+
+-- The line that was taken is of the form, and counts.
+pub record Counts (old new : LineReader) : Type 0 where
+  pub keeps : Keeps old new
+  pub line : IsSome (line_within old.limit (taken_line old.buffer))
+  pub number : new.number ≡ min (old.number + 1) (2 ^ 64 - 1)
+  pub faulty : new.faulty ≡ old.faulty
+
+-- There is a fault, which stays known, and bears the number of the next line.
+pub record Fails (old new : LineReader) (f : LineFault) : Type 0 where
+  pub keeps : Keeps old new
+  pub number : new.number ≡ old.number
+  pub faulty : new.faulty ≡ true
+  pub line : f.line ≡ min (old.number + 1) (2 ^ 64 - 1)
+
+-- The line that was taken counts, or it is at fault.
+abbrev pub Judges : LineReader → LineReader → Result Unit LineFault → Type 0
+Judges old new (Ok done) = Counts old new
+Judges old new (Err f) = Fails old new f × (line_within old.limit (taken_line old.buffer) ≡ None)

@@ -1,0 +1,5 @@
+pub mod Lines
+pub mod Inside
+pub mod Buffered
+pub mod Stands
+pub mod Gives
