@@ -1,0 +1,14 @@
+//! Events of a document, the open tree that they make, and the spine of its open elements.
+#![tactic(auto)]
+
+mod ancestors;
+mod events;
+mod open_tree;
+#[cfg(test)]
+mod tests;
+mod text;
+
+pub use ancestors::{Leaf, Spine, SpineItem};
+pub use events::{Attr, Attrs, Event, Label, Space, Spaces, copy_attrs, copy_spaces};
+pub use open_tree::{Full, NodeTable, OpenTree};
+pub use text::Chars;
