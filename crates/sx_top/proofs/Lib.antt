@@ -1,0 +1,11 @@
+pub mod Copiers
+pub mod Copies
+pub mod Courses
+pub mod Frames
+pub mod Growth
+pub mod Marks
+pub mod Nestings
+pub mod Printings
+pub mod Programs
+pub mod Takings
+pub mod Turns

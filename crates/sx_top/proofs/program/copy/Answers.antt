@@ -1,0 +1,6 @@
+use Rattle.sx_top.proofs.Programs.{run_of}
+use Rattle.sx_top.proofs.program.copy.Goals as goal
+
+pub returns-in-Ok-clause-headline : goal.returns-in-Ok-clause-headline
+returns-in-Ok-clause-headline g c =
+    run_of _ _ c.args.name.now (g.D.Desk.seen c.args.desk.now) (g.D.Desk.seen c.open_file.new.self) (g.D.Desk.seen c.transfer.new.desk) c.in-Ok.file c.transfer.result c.in-Ok.ensures c.transfer.ensures

@@ -1,0 +1,26 @@
+use Rattle.std.proofs.Common.{ℕ, List, Some, ap, ◌∙◌}
+use Rattle.sx_top.proofs.Programs.{quiet_same, runs_copy, runs_nothing, says_line}
+use Rattle.sx_top.proofs.program.top.Goals as goal
+use Rattle.sx_top.proofs.program.top.Goals.{in-Some, in-None}
+
+pub returns-clause-runs : goal.returns-clause-runs
+returns-clause-runs g c =
+    let old = g.D.Desk.seen c.args.desk.now in
+    let mid = g.D.Desk.seen c.match-parse_words.desk in
+    let new = g.D.Desk.seen c.write_all.new.desk in
+    elim c.match-parse_words.branch [
+      | in-Some w ↦ runs_copy _ w.document.result.now c.diagnostic.result.now old (g.D.Desk.seen w.copy-status.new.desk) mid new w.copy-status.result c.match-parse_words.status c.write_all.result
+          (ap (λ (n : List ℕ). Some n) w.document.ensures ∙ w.in-Some.ensures) (ap g.D.Desk.seen w.desk-is) w.status-is w.copy-status.ensures.headline c.write_all.ensures
+      | in-None w ↦ runs_nothing _ c.diagnostic.result.now old mid new c.match-parse_words.status c.write_all.result
+          w.in-None.ensures (ap g.D.Desk.seen w.desk-is) w.status-is c.write_all.ensures
+    ]
+
+pub returns-clause-says : goal.returns-clause-says
+returns-clause-says g c =
+    let old = g.D.Desk.seen c.args.desk.now in
+    let mid = g.D.Desk.seen c.match-parse_words.desk in
+    let new = g.D.Desk.seen c.write_all.new.desk in
+    elim c.match-parse_words.branch [
+      | in-Some w ↦ says_line c.diagnostic.result.now _ old (g.D.Desk.seen w.copy-status.new.desk) mid new c.write_all.result c.diagnostic.ensures (ap g.D.Desk.seen w.desk-is) w.copy-status.ensures.quiet c.write_all.ensures
+      | in-None w ↦ says_line c.diagnostic.result.now _ old old mid new c.write_all.result c.diagnostic.ensures (ap g.D.Desk.seen w.desk-is) (quiet_same old) c.write_all.ensures
+    ]

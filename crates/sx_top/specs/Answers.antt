@@ -1,0 +1,26 @@
+-- What a status is to the user.
+use Rattle.std.specs.Prelude.{ℕ, List, [], ◌∷◌, ◌++◌, codes}
+use Rattle.sx_top.specs.declared.status.Input.TheVariants as input
+use Rattle.sx_top.specs.declared.status.Status.{Status}
+use Rattle.sx_top.specs.declared.status.Status.TheVariants as status
+
+-- the exit status of the program
+abbrev pub number_of : Status → ℕ
+number_of status.Ok = 0
+number_of status.Usage = 1
+number_of (status.Refused i) = 4
+number_of status.OpenFault = 5
+number_of status.ReadFault = 6
+number_of status.WriteFault = 7
+number_of status.OutOfMemory = 9
+
+-- the line on the diagnostic output
+abbrev pub diagnostic_of : Status → List ℕ
+diagnostic_of status.Ok = []
+diagnostic_of status.Usage = codes "error usage" ++ 10 ∷ []
+diagnostic_of (status.Refused input.Sheet) = codes "error sheet" ++ 10 ∷ []
+diagnostic_of (status.Refused input.Document) = codes "error document" ++ 10 ∷ []
+diagnostic_of status.OpenFault = codes "error open" ++ 10 ∷ []
+diagnostic_of status.ReadFault = codes "error read" ++ 10 ∷ []
+diagnostic_of status.WriteFault = codes "error write" ++ 10 ∷ []
+diagnostic_of status.OutOfMemory = codes "error memory" ++ 10 ∷ []

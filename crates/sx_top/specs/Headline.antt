@@ -1,0 +1,94 @@
+-- What was read and written, at each read and at the end, whatever the meaning of the bytes is.
+use Rattle.std.specs.Prelude.{◌≡◌, ◌≢◌, ◌⊎◌, ◌↔◌, ℕ, suc, ◌+◌, ◌<◌, ◌≤◌, Bool, false, IsTrue, List, [], ◌∷◌, ◌++◌, length, take, Option, Some, None}
+use Rattle.sx_desk.specs.Desk.{Seen, Rose, bytes_of}
+use Rattle.sx_desk.specs.declared.desk.Out.TheVariants as out
+use Rattle.sx_top.specs.Frame.{Frame}
+use Rattle.sx_top.specs.declared.status.Input.TheVariants as input
+use Rattle.sx_top.specs.declared.status.Status.{Status}
+use Rattle.sx_top.specs.declared.status.Status.TheVariants as status
+use Rattle.sx_top.specs.declared.consumer.Outcome.{Outcome}
+use Rattle.sx_top.specs.declared.consumer.Outcome.TheVariants as outcomes
+
+-- a list begins with another
+abbrev pub BeginsWith : List ℕ → List ℕ → Type 0
+BeginsWith xs front = (rest : List ℕ) × (front ++ rest ≡ xs)
+
+-- the first numbers grow strictly, from above a number on, and stay below a limit
+abbrev pub RiseFrom : ℕ → List (ℕ × ℕ) → ℕ → Type 0
+RiseFrom low [] limit = low < limit
+RiseFrom low (mark ∷ marks) limit = (low < mark.0) × RiseFrom mark.0 marks limit
+
+abbrev pub RiseTo : List (ℕ × ℕ) → ℕ → Type 0
+RiseTo [] limit = Unit {0}
+RiseTo (mark ∷ marks) limit = RiseFrom mark.0 marks limit
+
+-- a read began when so many bytes were taken
+abbrev pub HasMark : ℕ → List (ℕ × ℕ) → Type 0
+HasMark t [] = ⊥
+HasMark t (mark ∷ marks) = (mark.0 ≡ t) ⊎ HasMark t marks
+
+-- the status that an outcome of a document's bytes gives
+abbrev pub status_of : Outcome → Status
+status_of outcomes.Done = status.Ok
+status_of outcomes.Refused = status.Refused input.Document
+
+-- more bytes only add to what is written
+abbrev pub Grows : (List ℕ → Bool → List ℕ) → Type 0
+Grows written = (b d : List ℕ) (ended : Bool) → (more : List ℕ) × (written (b ++ d) ended ≡ written b false ++ more)
+
+-- Of bytes, and of whether the input has ended with them: `written` is what is written for them, and `outcome` is
+-- where they end, or nothing where more may come.
+module _ (written : List ℕ → Bool → List ℕ) (outcome : List ℕ → Bool → Option Outcome) where
+  -- What a mark says where the content is c, the result had so many bytes before, and these were written in the call:
+  -- the bytes taken by then have no outcome yet, and exactly what they determine was written.
+  pub record MarkStands (c : List ℕ) (before : ℕ) (w : List ℕ) (mark : ℕ × ℕ) : Type 0 where
+    pub count : mark.1 ≡ before + length (written (take mark.0 c) false)
+    pub front : BeginsWith w (written (take mark.0 c) false)
+    pub going : outcome (take mark.0 c) false ≡ None
+
+  abbrev pub MarksStand : List ℕ → ℕ → List ℕ → List (ℕ × ℕ) → Type 0
+  MarksStand c before w [] = Unit {0}
+  MarksStand c before w (mark ∷ marks) = MarkStands c before w mark × MarksStand c before w marks
+
+  -- bytes have this outcome, and exactly what they determine was written
+  abbrev pub Determined : Outcome → List ℕ → Bool → List ℕ → Type 0
+  Determined o b ended w = (outcome b ended ≡ Some o) × (w ≡ written b ended)
+
+  -- what a status says of the bytes taken, of whether the input has ended, and of the bytes written
+  abbrev pub Answers : Status → List ℕ → Bool → List ℕ → Type 0
+  Answers status.Ok b ended w = IsTrue ended × Determined outcomes.Done b ended w
+  Answers status.Usage b ended w = ⊥
+  Answers (status.Refused input.Sheet) b ended w = ⊥
+  Answers (status.Refused input.Document) b ended w = Determined outcomes.Refused b ended w
+  Answers status.OpenFault b ended w = ⊥
+  Answers status.ReadFault b ended w = w ≡ written b false
+  Answers status.WriteFault b ended w = BeginsWith (written b ended) w
+  Answers status.OutOfMemory b ended w = BeginsWith (written b ended) w
+
+  -- the marks that a call added
+  pub record Marked (c : List ℕ) (before : ℕ) (w : List ℕ) (old new added : List (ℕ × ℕ)) (limit : ℕ) : Type 0 where
+    pub all : new ≡ old ++ added
+    pub stand : MarksStand c before w added
+    pub rise : RiseTo added limit
+
+  -- The input has ended where a read began when all was taken, and that read did not fail.
+  pub record ShownEnd (file : ℕ) (old new : Seen) (s : Status) (ended : Bool) (w : List ℕ) : Type 0 where
+    pub bytes : new.written out.Result ≡ old.written out.Result ++ w
+    pub marks : (added : List (ℕ × ℕ)) × Marked (bytes_of old file) (old.written_length out.Result) w (old.marks file) (new.marks file) added (suc (new.taken file))
+        × (IsTrue ended ↔ ((s ≢ status.ReadFault) × HasMark (length (bytes_of old file)) added))
+
+  -- at the end of a call w was written, as the bytes taken say
+  pub record ToldEnd (file : ℕ) (old new : Seen) (s : Status) (ended : Bool) (w : List ℕ) : Type 0 where
+    pub within : new.taken file ≤ length (bytes_of old file)
+    pub end : IsTrue ended → new.taken file ≡ length (bytes_of old file)
+    pub written_length : new.written_length out.Result ≡ old.written_length out.Result + length w
+    pub answer : Answers s (take (new.taken file) (bytes_of old file)) ended w
+    pub shown : IsTrue new.shown → ShownEnd file old new s ended w
+
+  -- What a transformation did to a desk: it read this file, of which nothing was taken, and wrote to the result.
+  pub record Transforms (file : ℕ) (old new : Seen) (s : Status) : Type 0 where
+    pub frame : Frame file out.Result old new
+    pub kind : (s ≢ status.Usage) × (s ≢ status.OpenFault)
+    pub read_fault : s ≡ status.ReadFault → Rose old.read_faults new.read_faults
+    pub write_fault : s ≡ status.WriteFault → Rose (old.write_faults out.Result) (new.write_faults out.Result)
+    pub told : IsTrue new.told → (ended : Bool) × (w : List ℕ) × ToldEnd file old new s ended w

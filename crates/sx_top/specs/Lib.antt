@@ -1,0 +1,10 @@
+pub mod Answers
+pub mod Copier
+pub mod Copy
+pub mod Form
+pub mod Frame
+pub mod Headline
+pub mod Program
+pub mod Taking
+pub mod Turn
+pub mod Words

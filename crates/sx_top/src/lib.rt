@@ -1,0 +1,20 @@
+//! The whole program as one call over a desk: words in, files read, the result written before each read, a status.
+#![tactic(auto)]
+
+mod consumer;
+mod copier;
+mod nesting;
+mod printer;
+mod program;
+mod reading;
+mod send;
+mod status;
+#[cfg(test)]
+mod tests;
+mod words;
+
+pub use consumer::{Consumer, Outcome};
+pub use program::top;
+pub use reading::transfer;
+pub use status::{Input, Status};
+pub use words::{Command, parse_words};
