@@ -1,4 +1,4 @@
--- The copy of a document: the meaning of a stylesheet that copies every node (XSLT 3.0, 6.7.1, shallow-copy).
+-- The copy of a document: the meaning of a stylesheet that copies every node (XSLT 3.0, 6.7.3, shallow copy).
 use Rattle.std.specs.Prelude.{ℕ, ◌^◌, Bool, true, false, List, [], ◌∷◌, ◌++◌, Option, Some, None, if◌then◌else◌}
 use Rattle.sx_tree.specs.Tree.{Forest, none, text, instruction, element, Document, tree_of}
 use Rattle.sx_top.specs.declared.consumer.Outcome.{Outcome}
