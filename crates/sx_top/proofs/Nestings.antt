@@ -22,23 +22,23 @@ happenings-snoc (x ∷ p) l =
     ∙ sym (append_assoc (happening x) (happenings p) (happening l))
 
 -- the document of one line more
-document-snoc : (p : List Line) (l : Line) (h : Happening (List ℕ)) → happening l ≡ h ∷ [] → document_of (p ++ l ∷ []) ≡ push (document_of p) h
+pub document-snoc : (p : List Line) (l : Line) (h : Happening (List ℕ)) → happening l ≡ h ∷ [] → document_of (p ++ l ∷ []) ≡ push (document_of p) h
 document-snoc p l h is =
     ap (λ (hs : List (Happening (List ℕ))). tree_of hs) (happenings-snoc p l ∙ ap (λ (hs : List (Happening (List ℕ))). happenings p ++ hs) is)
     ∙ tree_of-snoc (happenings p) h
 
-document-conforms : (p : List Line) → document_of (p ++ conforms ∷ []) ≡ document_of p
+pub document-conforms : (p : List Line) → document_of (p ++ conforms ∷ []) ≡ document_of p
 document-conforms p = ap (λ (hs : List (Happening (List ℕ))). tree_of hs) (happenings-snoc p conforms ∙ append-nil (happenings p))
 
 -- only one kind of line says that the document conformed
-conformed-snoc : (p : List Line) (l : Line) → has_conformed (l ∷ []) ≡ false → has_conformed (p ++ l ∷ []) ≡ has_conformed p
+pub conformed-snoc : (p : List Line) (l : Line) → has_conformed (l ∷ []) ≡ false → has_conformed (p ++ l ∷ []) ≡ has_conformed p
 conformed-snoc [] l h = h
 conformed-snoc (starts n ∷ p) l h = conformed-snoc p l h
 conformed-snoc (ends n ∷ p) l h = conformed-snoc p l h
 conformed-snoc (says s ∷ p) l h = conformed-snoc p l h
 conformed-snoc (conforms ∷ p) l h = refl
 
-conformed-last : (p : List Line) → has_conformed (p ++ conforms ∷ []) ≡ true
+pub conformed-last : (p : List Line) → has_conformed (p ++ conforms ∷ []) ≡ true
 conformed-last [] = refl
 conformed-last (starts n ∷ p) = conformed-last p
 conformed-last (ends n ∷ p) = conformed-last p
@@ -46,7 +46,7 @@ conformed-last (says s ∷ p) = conformed-last p
 conformed-last (conforms ∷ p) = refl
 
 -- a text is no element
-element-push_text : (f : Forest (List ℕ)) (s : List ℕ) → has_element (push_node f (text s none)) ≡ has_element f
+pub element-push_text : (f : Forest (List ℕ)) (s : List ℕ) → has_element (push_node f (text s none)) ≡ has_element f
 element-push_text none s = refl
 element-push_text (text t rest) s = element-push_text rest s
 element-push_text (instruction t c rest) s = element-push_text rest s
@@ -127,7 +127,7 @@ innermost names (j ∷ is) i (n ∷ ns) h =
       last_named = more.last_named;
     }
 
-last_is-snoc : (name : List ℕ) (es : List (List ℕ)) (n : List ℕ) → last_is name (es ++ n ∷ []) ≡ bytes_eq n name
+pub last_is-snoc : (name : List ℕ) (es : List (List ℕ)) (n : List ℕ) → last_is name (es ++ n ∷ []) ≡ bytes_eq n name
 last_is-snoc name [] n = refl
 last_is-snoc name (e ∷ []) n = refl
 last_is-snoc name (e ∷ d ∷ es) n = last_is-snoc name (d ∷ es) n

@@ -1,6 +1,7 @@
 pub mod Answers
 pub mod Copier
 pub mod Copy
+pub mod Documents
 pub mod Form
 pub mod Frame
 pub mod Headline

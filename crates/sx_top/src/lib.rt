@@ -13,6 +13,9 @@ mod status;
 mod tests;
 mod words;
 
+/// Laws over the definitions, each the contract of a function that does nothing.
+pub mod laws;
+
 pub use consumer::{Consumer, Outcome};
 pub use program::top;
 pub use reading::transfer;
