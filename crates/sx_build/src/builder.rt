@@ -1,0 +1,207 @@
+// The builder: what is asked for in, the built events out.
+ghost use Rattle.std.specs.Prelude.{◌≡◌, ◌<◌, [], ◌∷◌, ◌++◌, ℕ, List, Bool, true, false, length, drop, IsErr, OnOk, OnErr, IfOk};
+ghost use Rattle.sx_lines.specs.declared.events.Built.TheVariants as event;
+ghost use Rattle.sx_build.specs.declared.raw.Raw.{Raw as Request};
+ghost use Rattle.sx_build.specs.declared.raw.Raw.TheVariants as raw;
+ghost use Rattle.sx_build.specs.Build.{printed_name};
+
+use crate::Raw;
+use sqlite_items::Items;
+use std::alloc::{AllocError, Global};
+use std::mem;
+use sx_lines::Built;
+use sx_names::Names;
+use sx_tree::{Chars, Label};
+
+/// Built events, in order.
+pub type Builts = Items<Built>;
+
+/// Builds a result as it is asked for. What is fixed can be given; a start at the end is withheld.
+///
+/// Contracts say by `Stands` after which events it stands, and how many built events it has given.
+#[derive(Drop)]
+pub struct Builder {
+    alloc: Global,
+    // the printed names of the open elements, the outermost first
+    elements: Items<Chars>,
+    // what was not given yet, with the withheld start behind it
+    pending: Builts,
+    // the withheld start once more, so that giving what stands before it takes no memory
+    spare: Builts,
+    withheld: bool,
+    spent: bool,
+}
+
+// The printed name of a label.
+fn print_name(alloc: Global, label: &Label, names: &Names) -> Result<Chars, AllocError>
+    requires { label.now.number < length names.now }
+    ensures { IfOk result (λ name. name ≡ printed_name names.now label.now) }
+{
+    let local = names.local(label.number);
+    let prefix = label.prefix.as_str();
+    if prefix.is_empty() {
+        return Chars::copy(alloc, local);
+    }
+    let mut name = String::from_str(alloc, prefix)?;
+    name.push_str(":")?;
+    name.push_str(local)?;
+    Chars::copy(alloc, name.as_str())
+}
+
+// The start of an element that has no attributes.
+fn start_of(alloc: Global, name: &str) -> Result<Built, AllocError>
+    ensures { IfOk result (λ e. e ≡ event.Start name.now []) }
+{
+    Ok(Built::Start {
+        name: Chars::copy(alloc, name)?,
+        pairs: Items::new(alloc),
+    })
+}
+
+// A list of one event.
+fn one(alloc: Global, e: Built) -> Result<Builts, AllocError>
+    ensures { IfOk result (λ events. events ≡ e ∷ []) }
+{
+    let mut events = Items::new(alloc);
+    events.push(e)?;
+    Ok(events)
+}
+
+impl Builder {
+    ghost use Rattle.sx_build.specs.Build.{Build, open_names, HasNumber, MayEnd};
+    ghost use Rattle.sx_build.specs.Builder.{Stands, is_spent};
+
+    /// A builder that nothing was asked of. It takes no memory.
+    pub fn new(alloc: Global) -> Builder
+        ensures stands { (names : List (List ℕ × List ℕ)) → Stands result names [] false 0 }
+        ensures spent { is_spent result ≡ false }
+    {
+        Builder {
+            alloc,
+            elements: Items::new(alloc),
+            pending: Items::new(alloc),
+            spare: Items::new(alloc),
+            withheld: false,
+            spent: false,
+        }
+    }
+
+    /// Takes what comes next, where `finish` was not called and an end has an open element. An empty text gives nothing.
+    /// After an `AllocError` the builder is spent: each later push answers one, and what it gives is not said.
+    pub fn push(&mut self, raw: Raw, names: &Names) -> Result<(), AllocError>
+        requires { HasNumber names.now raw }
+        ensures ok { OnOk result ((raws : List Request) (given : ℕ) → MayEnd (open_names names.now raws) raw
+            → Stands self.old names.now raws false given → Stands self.new names.now (raws ++ raw ∷ []) false given) }
+        ensures err { OnErr result (is_spent self.new ≡ true) }
+        ensures spent { is_spent self.old ≡ true → IsErr result }
+        ensures kept { OnOk result (is_spent self.new ≡ is_spent self.old) }
+    {
+        if self.spent {
+            return Err(AllocError);
+        }
+        match self.take(raw, names) {
+            Ok(()) => Ok(()),
+            Err(error) => {
+                self.spent = true;
+                Err(error)
+            }
+        }
+    }
+
+    // Takes what comes next.
+    fn take(&mut self, raw: Raw, names: &Names) -> Result<(), AllocError>
+        requires { HasNumber names.now raw }
+        ensures ok { OnOk result ((raws : List Request) (given : ℕ) → MayEnd (open_names names.now raws) raw
+            → Stands self.old names.now raws false given → Stands self.new names.now (raws ++ raw ∷ []) false given) }
+        ensures kept { OnOk result (is_spent self.new ≡ is_spent self.old) }
+    {
+        match raw {
+            Raw::Start(label) => self.take_start(&label, names),
+            Raw::End => self.take_end(),
+            Raw::Text(text) => self.take_text(text),
+        }
+    }
+
+    // An element begins. Its start is withheld.
+    fn take_start(&mut self, label: &Label, names: &Names) -> Result<(), AllocError>
+        requires { label.now.number < length names.now }
+        ensures ok { OnOk result ((raws : List Request) (given : ℕ)
+            → Stands self.old names.now raws false given → Stands self.new names.now (raws ++ raw.Start label.now ∷ []) false given) }
+        ensures kept { OnOk result (is_spent self.new ≡ is_spent self.old) }
+    {
+        let name = print_name(self.alloc, label, names)?;
+        self.spare = one(self.alloc, start_of(self.alloc, name.as_str())?)?;
+        self.pending.push(start_of(self.alloc, name.as_str())?)?;
+        self.elements.push(name)?;
+        self.withheld = true;
+        Ok(())
+    }
+
+    // The innermost open element ends.
+    fn take_end(&mut self) -> Result<(), AllocError>
+        ensures ok { OnOk result ((names : List (List ℕ × List ℕ)) (raws : List Request) (given : ℕ) → 0 < length (open_names names raws)
+            → Stands self.old names raws false given → Stands self.new names (raws ++ raw.End ∷ []) false given) }
+        ensures kept { OnOk result (is_spent self.new ≡ is_spent self.old) }
+    {
+        match self.elements.pop() {
+            Some(name) => {
+                self.settle(Built::End { name })?;
+                Ok(())
+            }
+            None => Ok(()),
+        }
+    }
+
+    // A text comes, which may be empty.
+    fn take_text(&mut self, text: Chars) -> Result<(), AllocError>
+        ensures ok { OnOk result ((names : List (List ℕ × List ℕ)) (raws : List Request) (given : ℕ)
+            → Stands self.old names raws false given → Stands self.new names (raws ++ raw.Text text ∷ []) false given) }
+        ensures kept { OnOk result (is_spent self.new ≡ is_spent self.old) }
+    {
+        if text.as_str().is_empty() {
+            return Ok(());
+        }
+        self.settle(Built::Text(text))?;
+        Ok(())
+    }
+
+    // An event is fixed, and with it what was withheld.
+    fn settle(&mut self, e: Built) -> Result<(), AllocError>
+        ensures pending { OnOk result (self.new.pending ≡ self.old.pending ++ e ∷ []) }
+        ensures elements { self.new.elements ≡ self.old.elements }
+        ensures withheld { OnOk result (self.new.withheld ≡ false) }
+        ensures spent { self.new.spent ≡ self.old.spent }
+    {
+        self.pending.push(e)?;
+        self.withheld = false;
+        Ok(())
+    }
+
+    /// Is told that the content is at its end: a withheld start is fixed. It takes no memory.
+    pub fn finish(&mut self)
+        ensures stands { (names : List (List ℕ × List ℕ)) (raws : List Request) (given : ℕ) → Stands self.old names raws false given → Stands self.new names raws true given }
+        ensures spent { is_spent self.new ≡ is_spent self.old }
+    {
+        self.withheld = false;
+    }
+
+    /// What is fixed and was not given yet, in order. It takes no memory.
+    pub fn drain(&mut self) -> Builts
+        ensures gives { (names : List (List ℕ × List ℕ)) (raws : List Request) (at_end : Bool) (given : ℕ) → Stands self.old names raws at_end given
+            → result ≡ drop given (Build names raws at_end) }
+        ensures stands { (names : List (List ℕ × List ℕ)) (raws : List Request) (at_end : Bool) (given : ℕ) → Stands self.old names raws at_end given
+            → Stands self.new names raws at_end (length (Build names raws at_end)) }
+        ensures spent { is_spent self.new ≡ is_spent self.old }
+    {
+        if !self.withheld {
+            return mem::replace(&mut self.pending, Items::new(self.alloc));
+        }
+        if self.pending.len() == 1 {
+            return Items::new(self.alloc);
+        }
+        let spare = mem::replace(&mut self.spare, Items::new(self.alloc));
+        let mut fixed = mem::replace(&mut self.pending, spare);
+        let _ = fixed.pop();
+        fixed
+    }
+}
