@@ -1,0 +1,6 @@
+//! The codes of errors.
+#![tactic(auto)]
+
+mod error_codes;
+
+pub use error_codes::Code;
