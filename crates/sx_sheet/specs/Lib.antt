@@ -1,0 +1,6 @@
+pub mod Lines
+pub mod Syntax
+pub mod Numbers
+pub mod Machine
+pub mod Looking
+pub mod Answers

@@ -1,0 +1,37 @@
+// How far a stylesheet was read.
+ghost use Rattle.std.specs.Prelude.{◌≡◌, ◌<◌, ◌^◌};
+ghost use Rattle.sx_sheet.specs.Numbers as numbers;
+ghost use Rattle.sx_sheet.specs.Numbers.{IsSmall};
+
+use sx_kinds::{Construct, ConstructKind};
+
+/// How many constructs have started, and how many lines were read.
+#[derive(Clone, Copy)]
+pub(crate) struct Place {
+    pub constructs: u64,
+    pub lines: u64,
+}
+
+impl Place {
+    pub fn further(self, constructs: u64) -> Place
+        requires small { IsSmall self }
+        requires more { constructs < 2 ^ 60 }
+        ensures { result ≡ numbers.further constructs 1 self }
+    {
+        Place {
+            constructs: self.constructs + constructs,
+            lines: self.lines + 1,
+        }
+    }
+
+    pub fn next_construct(self, kind: ConstructKind) -> Construct
+        requires small { IsSmall self }
+        ensures { result ≡ numbers.next_construct self kind }
+    {
+        Construct {
+            number: self.constructs + 1,
+            line: self.lines + 1,
+            kind,
+        }
+    }
+}

@@ -1,0 +1,88 @@
+// Thin stylesheets as files.
+use crate::{StaticFault, ThinFault, read_thin};
+use std::alloc::{AllocError, Global};
+use sx_atoms::Code;
+use sx_kinds::{ConstructKind, Instr, InstrForm, Sheet};
+use sx_names::Names;
+
+const HEAD: &[u8] =
+    b"Axmlns:xsl CDATA http://www.w3.org/1999/XSL/Transform\nAxmlns:xs CDATA http://www.w3.org/2001/XMLSchema\nAversion CDATA 3.0\n(xsl:stylesheet\nAstreamable CDATA yes\nAon-no-match CDATA text-only-copy\n(xsl:mode\n)xsl:mode\n";
+
+fn read(
+    alloc: Global,
+    rest: &[u8],
+    names: &mut Names,
+) -> Result<Result<Sheet, ThinFault>, AllocError> {
+    let mut bytes = Vec::new(alloc);
+    bytes.extend_from_slice(HEAD)?;
+    bytes.extend_from_slice(rest)?;
+    read_thin(alloc, bytes.as_slice(), names)
+}
+
+fn broken(line: u64) -> Option<ThinFault> {
+    Some(ThinFault::Static(StaticFault {
+        code: Code::Xtse0010,
+        line,
+    }))
+}
+
+// The number, the line and the kind of an instruction.
+fn shown(instr: &Instr) -> (u64, u64, ConstructKind) {
+    (
+        instr.construct.number,
+        instr.construct.line,
+        instr.construct.kind,
+    )
+}
+
+#[test]
+fn constructs_have_their_numbers_and_lines(rt: HostRuntime) -> Result<(), AllocError> {
+    let mut names = sx_names::new(rt.alloc());
+    let rest =
+        b"Amatch CDATA a\n(xsl:template\n(out\n(xsl:text\n-s\n)xsl:text\n(xsl:apply-templates\n)xsl:apply-templates\n(xsl:text\n-t\n)xsl:text\n)out\n)xsl:template\n)xsl:stylesheet\nC\n";
+    let Ok(sheet) = read(rt.alloc(), rest, &mut names)? else {
+        assert!(rt; false);
+        return Ok(());
+    };
+    assert_eq!(rt; sheet.constructs, 6);
+    assert_eq!(rt; sheet.modes.len(), 1);
+    assert_eq!(rt; names.find("", "a"), Some(0));
+    assert_eq!(rt; names.find("", "out"), Some(1));
+    for template in sheet.templates.as_slice() {
+        assert_eq!(rt; template.construct.line, 10);
+        for literal in template.body.as_slice() {
+            assert!(rt; shown(literal) == (3, 11, ConstructKind::Literal));
+            let [first, second, third] = literal.body.as_slice() else {
+                assert!(rt; false);
+                return Ok(());
+            };
+            assert!(rt; shown(first) == (4, 12, ConstructKind::Text));
+            assert!(rt; shown(second) == (5, 15, ConstructKind::ApplyTemplates));
+            assert!(rt; shown(third) == (6, 17, ConstructKind::Text));
+        }
+    }
+    Ok(())
+}
+
+#[test]
+fn a_fault_has_its_line(rt: HostRuntime) -> Result<(), AllocError> {
+    let mut names = sx_names::new(rt.alloc());
+    let cases: [(&[u8], Option<ThinFault>); 6] = [
+        (b"(xsl:mode\n)xsl:mode\n)xsl:stylesheet\n", broken(9)),
+        (
+            b"Amatch CDATA a\n(xsl:template\nAid CDATA x\n(out\n",
+            broken(11),
+        ),
+        (b"Amatch CDATA a\n(xsl:template\n-s\n", broken(11)),
+        (b"Amatch CDATA a\n(xsl:template\n", broken(11)),
+        (b"(b\n(a.b\n", Some(ThinFault::Refused)),
+        (b")xsl:stylesheet", None),
+    ];
+    for (rest, fault) in cases {
+        let answer = read(rt.alloc(), rest, &mut names)?;
+        assert!(rt; answer.err() == fault);
+    }
+    let empty = read_thin(rt.alloc(), b"", &mut names)?;
+    assert!(rt; empty.err() == broken(1));
+    Ok(())
+}
