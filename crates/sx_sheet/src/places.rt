@@ -13,6 +13,7 @@ pub(crate) struct Place {
 }
 
 impl Place {
+    /// Behind so many constructs more, and one line.
     pub fn further(self, constructs: u64) -> Place
         requires small { IsSmall self }
         requires more { constructs < 2 ^ 60 }
@@ -24,6 +25,7 @@ impl Place {
         }
     }
 
+    /// The construct that starts on the next line.
     pub fn next_construct(self, kind: ConstructKind) -> Construct
         requires small { IsSmall self }
         ensures { result ≡ numbers.next_construct self kind }

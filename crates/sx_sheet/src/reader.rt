@@ -135,6 +135,7 @@ fn is_match(line: &[u8]) -> bool
 }
 
 impl Reader {
+    /// A reader that was given no line.
     pub fn new(alloc: Global) -> Reader
         ensures { state_of result ≡ machine.start }
     {
