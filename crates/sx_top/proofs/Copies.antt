@@ -1,8 +1,10 @@
 -- The copy of one event more, and its printing.
+use Rattle.sx_tree.proofs.Open.{none_open, open-none, has_open-is, push_all-append, tree_of-snoc}
+use Rattle.sx_tree.specs.Events.{is_text, ends_in_text as text_is_last}
 use Rattle.std.proofs.Common.{◌≡◌, ◌≢◌, ℕ, Bool, true, false, cond, List, [], ◌∷◌, ◌++◌, refl, ap, sym, ◌∙◌, subst, append_assoc, append-nil}
 use Rattle.std.proofs.lemmas.Bool.{false≢true}
 use Rattle.sx_tree.specs.Tree.{Happening, starts, ends, says, instructs, closes, Forest, none, text, instruction, element, Document, push_node, push_end, push, push_all, tree_of, empty_document, has_open, open_elements}
-use Rattle.sx_top.specs.Form.{is_text, text_is_last, without_last_text}
+use Rattle.sx_top.specs.Form.{without_last_text}
 use Rattle.sx_top.specs.Copier.{copy_of}
 use Rattle.sx_top.specs.Copy.{Built, start, end, words, is_start, copied, without_last_start, newline_after, print, ends_in_text}
 
@@ -16,19 +18,8 @@ copied-push_node (element n false kids rest) new =
     ap (λ (x : List Built). (start n ∷ copied kids) ++ (end n ∷ x)) (copied-push_node rest new)
     ∙ sym (append_assoc (start n ∷ copied kids) (end n ∷ copied rest) (copied new))
 
-none_open : (f : Forest (List ℕ)) → has_open f ≡ false → open_elements f ≡ []
-none_open none h = refl
-none_open (text s rest) h = none_open rest h
-none_open (instruction t c rest) h = none_open rest h
-none_open (element n true kids rest) h = absurd (false≢true (sym h))
-none_open (element n false kids rest) h = none_open rest h
-
 some_open : (f : Forest (List ℕ)) → has_open f ≡ true → open_elements f ≢ []
-some_open none h e = absurd (false≢true h)
-some_open (text s rest) h e = some_open rest h e
-some_open (instruction t c rest) h e = some_open rest h e
-some_open (element n true kids rest) h e = cc
-some_open (element n false kids rest) h e = some_open rest h e
+some_open f h e = absurd (false≢true (sym (open-none f e) ∙ h))
 
 end_in : (b : Bool) (n : List ℕ) (kids : Forest (List ℕ)) (es : List (List ℕ)) (m : List ℕ) → has_open kids ≡ b → n ∷ open_elements kids ≡ es ++ m ∷ [] →
     ((fs : List (List ℕ)) → open_elements kids ≡ fs ++ m ∷ [] → copied (push_end kids) ≡ copied kids ++ end m ∷ []) →
@@ -101,11 +92,6 @@ without_last_text-append [] k ks = refl
 without_last_text-append (h ∷ []) k ks = refl
 without_last_text-append (h ∷ g ∷ hs) k ks = ap (λ (x : List (Happening (List ℕ))). h ∷ x) (without_last_text-append (g ∷ hs) k ks)
 
-pub text_is_last-snoc : (hs : List (Happening (List ℕ))) (k : Happening (List ℕ)) → text_is_last (hs ++ k ∷ []) ≡ is_text k
-text_is_last-snoc [] k = refl
-text_is_last-snoc (h ∷ []) k = refl
-text_is_last-snoc (h ∷ g ∷ hs) k = text_is_last-snoc (g ∷ hs) k
-
 -- where no text is last nothing is left out
 pub no_text_last : (hs : List (Happening (List ℕ))) → text_is_last hs ≡ false → without_last_text hs ≡ hs
 no_text_last [] h = refl
@@ -129,25 +115,17 @@ text_last (k ∷ g ∷ hs) h =
     let t = text_last (g ∷ hs) h in
     (k ∷ t.0, t.1, ap (λ (x : List (Happening (List ℕ))). k ∷ x) t.2, ap (λ (x : List (Happening (List ℕ))). k ∷ x) t.3)
 
-pub push_all-append : (d : Document (List ℕ)) (p q : List (Happening (List ℕ))) → push_all d (p ++ q) ≡ push_all (push_all d p) q
-push_all-append d [] q = refl
-push_all-append d (h ∷ p) q = push_all-append (push d h) p q
-
--- the document of one event more
-pub tree-snoc : (p : List (Happening (List ℕ))) (h : Happening (List ℕ)) → tree_of (p ++ h ∷ []) ≡ push (tree_of p) h
-tree-snoc p h = push_all-append empty_document p (h ∷ [])
-
 pub copy-start : (hs : List (Happening (List ℕ))) (n : List ℕ) → copy_of (hs ++ starts n ∷ []) ≡ copy_of hs ++ start n ∷ []
-copy-start hs n = ap (λ (d : Document (List ℕ)). copied d.content) (tree-snoc hs (starts n)) ∙ copied-push_node (tree_of hs).content (element n true none none)
+copy-start hs n = ap (λ (d : Document (List ℕ)). copied d.content) (tree_of-snoc hs (starts n)) ∙ copied-push_node (tree_of hs).content (element n true none none)
 
 pub copy-text : (hs : List (Happening (List ℕ))) (s : List ℕ) → copy_of (hs ++ says s ∷ []) ≡ copy_of hs ++ words s ∷ []
-copy-text hs s = ap (λ (d : Document (List ℕ)). copied d.content) (tree-snoc hs (says s)) ∙ copied-push_node (tree_of hs).content (text s none)
+copy-text hs s = ap (λ (d : Document (List ℕ)). copied d.content) (tree_of-snoc hs (says s)) ∙ copied-push_node (tree_of hs).content (text s none)
 
 pub copy-end : (hs : List (Happening (List ℕ))) (es : List (List ℕ)) (n : List ℕ) → open_elements (tree_of hs).content ≡ es ++ n ∷ [] → copy_of (hs ++ ends ∷ []) ≡ copy_of hs ++ end n ∷ []
-copy-end hs es n e = ap (λ (d : Document (List ℕ)). copied d.content) (tree-snoc hs ends) ∙ copied-push_end (tree_of hs).content es n e
+copy-end hs es n e = ap (λ (d : Document (List ℕ)). copied d.content) (tree_of-snoc hs ends) ∙ copied-push_end (tree_of hs).content es n e
 
 pub copy-close : (hs : List (Happening (List ℕ))) → copy_of (hs ++ closes ∷ []) ≡ copy_of hs
-copy-close hs = ap (λ (d : Document (List ℕ)). copied d.content) (tree-snoc hs closes)
+copy-close hs = ap (λ (d : Document (List ℕ)). copied d.content) (tree_of-snoc hs closes)
 
 -- more built events behind others
 abbrev pub Begins : List Built → List Built → Type 0
@@ -162,22 +140,8 @@ begins_then a b c f g = (f.0 ++ g.0, g.1 ∙ ap (λ (x : List Built). x ++ g.0) 
 some_end : (f : Forest (List ℕ)) (b : Bool) → has_open f ≡ b → Begins (copied f) (copied (push_end f))
 some_end f false h = ([], ap copied (push_end-closed f h) ∙ sym (append-nil (copied f)))
 some_end f true h =
-    let l = last_open f h in
+    let l = has_open-is f h in
     (end l.1 ∷ [], copied-push_end f l.0 l.1 l.2)
-  where
-    in_element : (n : List ℕ) (kids : Forest (List ℕ)) (b : Bool) → has_open kids ≡ b → (has_open kids ≡ true → (es : List (List ℕ)) × (m : List ℕ) × (open_elements kids ≡ es ++ m ∷ [])) →
-        (es : List (List ℕ)) × (m : List ℕ) × (n ∷ open_elements kids ≡ es ++ m ∷ [])
-    in_element n kids true q rest =
-        let r = rest q in
-        (n ∷ r.0, r.1, ap (λ (x : List (List ℕ)). n ∷ x) r.2)
-    in_element n kids false q rest = ([], n, ap (λ (x : List (List ℕ)). n ∷ x) (none_open kids q))
-
-    last_open : (f : Forest (List ℕ)) → has_open f ≡ true → (es : List (List ℕ)) × (m : List ℕ) × (open_elements f ≡ es ++ m ∷ [])
-    last_open none q = absurd (false≢true q)
-    last_open (text s rest) q = last_open rest q
-    last_open (instruction t c rest) q = last_open rest q
-    last_open (element n true kids rest) q = in_element n kids (has_open kids) refl (λ r. last_open kids r)
-    last_open (element n false kids rest) q = last_open rest q
 
 pub push_grows : (d : Document (List ℕ)) (h : Happening (List ℕ)) → Begins (copied d.content) (copied (push d h).content)
 push_grows d (starts n) = (start n ∷ [], copied-push_node d.content (element n true none none))

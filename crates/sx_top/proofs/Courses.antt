@@ -1,15 +1,17 @@
 -- The course of bytes: lines that fit, and where they are broken off.
+use Rattle.sx_tree.proofs.Open.{tree_of-snoc}
+use Rattle.sx_tree.specs.Events.{ends_in_text as text_is_last}
 use Rattle.std.proofs.Common.{◌≡◌, ◌⊎◌, inl, inr, ℕ, Bool, true, false, not, cond, ◌&&◌, ◌||◌, List, [], ◌∷◌, ◌++◌, Option, Some, None, refl, ap, sym, ◌∙◌, subst, append_assoc, append-nil}
 use Rattle.std.proofs.lemmas.Bool.{false≢true}
 use Rattle.sx_esis.specs.Lines.{Line, starts, ends, says, conforms}
 use Rattle.sx_tree.specs.Tree.{Happening, Document, closes, tree_of, push_all, empty_document, has_open}
 use Rattle.sx_tree.specs.Tree as tree
-use Rattle.sx_top.specs.Form.{Course, happening, happenings, document_of, fits, fitting, all_fit, events_in, without_last_text, text_is_last}
+use Rattle.sx_top.specs.Form.{Course, happening, happenings, document_of, fits, fitting, all_fit, events_in, without_last_text}
 use Rattle.sx_top.specs.Copy.{Built, copied, print, without_last_start, ends_in_text, ending, written_for_document}
 use Rattle.sx_top.specs.Copier.{copy_of}
 use Rattle.sx_top.specs.declared.consumer.Outcome.{Outcome}
 use Rattle.sx_top.specs.declared.consumer.Outcome.TheVariants as outcomes
-use Rattle.sx_top.proofs.Copies.{Begins, begins_same, begins_then, copy_grows, start_fewer, start_grows, print-append, without_last_text-append, text_last, no_text_last, copy-text, copy-close, tree-snoc}
+use Rattle.sx_top.proofs.Copies.{Begins, begins_same, begins_then, copy_grows, start_fewer, start_grows, print-append, without_last_text-append, text_last, no_text_last, copy-text, copy-close}
 
 -- lines that fit, one list after another
 fit_step : (v : Bool) (a b c : Bool) → a ≡ (b && c) → cond v a false ≡ (cond v b false && c)
@@ -92,7 +94,7 @@ open_without_text : (p : List Line) → (tree_of (without_last_text (happenings 
 open_without_text p = by_text (text_is_last (happenings p)) refl
   where
     open_front : (hs gs : List (Happening (List ℕ))) (s : List ℕ) → hs ≡ gs ++ tree.says s ∷ [] → (tree_of hs).is_open ≡ true → (tree_of gs).is_open ≡ true
-    open_front hs gs s e h = ap (λ (d : Document (List ℕ)). d.is_open) (sym (tree-snoc gs (tree.says s))) ∙ ap (λ (x : List (Happening (List ℕ))). (tree_of x).is_open) (sym e) ∙ h
+    open_front hs gs s e h = ap (λ (d : Document (List ℕ)). d.is_open) (sym (tree_of-snoc gs (tree.says s))) ∙ ap (λ (x : List (Happening (List ℕ))). (tree_of x).is_open) (sym e) ∙ h
 
     by_text : (v : Bool) → text_is_last (happenings p) ≡ v → (tree_of (without_last_text (happenings p))).is_open ≡ true
     by_text true e =
@@ -117,7 +119,7 @@ written_going c h =
 pub written_done : (c : Course) → c.broken ≡ false → course_written c true ≡ print false (copy_of (happenings c.lines)) ++ ending (ends_in_text false (copy_of (happenings c.lines)))
 written_done c h =
     ap (λ (v : Bool). written_for_document (tree_of (cond v (happenings c.lines) (happenings c.lines ++ closes ∷ [])))) h
-    ∙ written_closed (tree_of (happenings c.lines ++ closes ∷ [])) (ap (λ (d : Document (List ℕ)). d.is_open) (tree-snoc (happenings c.lines) closes))
+    ∙ written_closed (tree_of (happenings c.lines ++ closes ∷ [])) (ap (λ (d : Document (List ℕ)). d.is_open) (tree_of-snoc (happenings c.lines) closes))
     ∙ ap (λ (bs : List Built). print false bs ++ ending (ends_in_text false bs)) (copy-close (happenings c.lines))
 
 -- where a course ends
@@ -135,7 +137,7 @@ outcome_going c h =
 pub outcome_done : (c : Course) → c.broken ≡ false → course_outcome c true ≡ Some outcomes.Done
 outcome_done c h =
     ap (λ (v : Bool). cond v (Some outcomes.Refused) (cond (tree_of (cond v (happenings c.lines) (happenings c.lines ++ closes ∷ []))).is_open None (Some outcomes.Done))) h
-    ∙ ap (λ (d : Document (List ℕ)). cond d.is_open None (Some outcomes.Done)) (tree-snoc (happenings c.lines) closes)
+    ∙ ap (λ (d : Document (List ℕ)). cond d.is_open None (Some outcomes.Done)) (tree_of-snoc (happenings c.lines) closes)
 
 -- what may come for a course does so
 going_front : (hs : List (Happening (List ℕ))) → Begins (without_last_start (copy_of (without_last_text hs))) (without_last_start (copy_of hs))

@@ -1,10 +1,11 @@
 -- The printed copy of one event more.
+use Rattle.sx_tree.proofs.Follow.{ends_in_text-snoc}
+use Rattle.sx_tree.specs.Events.{ends_in_text as text_is_last}
 use Rattle.std.proofs.Common.{◌≡◌, ℕ, Bool, true, false, List, [], ◌∷◌, ◌++◌, ap, ap₂, sym, ◌∙◌, append_assoc, append-nil}
 use Rattle.sx_tree.specs.Tree.{Happening, starts, ends, says, tree_of, open_elements}
-use Rattle.sx_top.specs.Form.{text_is_last}
 use Rattle.sx_top.specs.Copy.{Built, start, end, words, without_last_start, newline_after, print, ends_in_text, ending}
 use Rattle.sx_top.specs.Copier.{copy_of, PrintedAs}
-use Rattle.sx_top.proofs.Copies.{copy-start, copy-text, copy-end, print-append, ends_in_text-append, without_last_start-append, without_last_text-append, text_is_last-snoc, no_text_last, text_last}
+use Rattle.sx_top.proofs.Copies.{copy-start, copy-text, copy-end, print-append, ends_in_text-append, without_last_start-append, without_last_text-append, no_text_last, text_last}
 
 -- one built event more is printed behind the others
 print-snoc : (bs : List Built) (b : Built) → print false (bs ++ b ∷ []) ≡ print false bs ++ print (ends_in_text false bs) (b ∷ [])
@@ -34,7 +35,7 @@ printed_start due held after hs w n p = record {
       ∙ ap (λ (x : List Built). print false (without_last_start x)) (sym (copy-start hs n))
       ∙ ap (λ (x : List (Happening (List ℕ))). print false (without_last_start (copy_of x))) (sym (without_last_text-append hs (starts n) []));
   text = sym (ap (ends_in_text false) (copy-start hs n) ∙ ends_in_text-append false (copy_of hs) (start n ∷ []));
-  last = sym (text_is_last-snoc hs (starts n));
+  last = sym (ends_in_text-snoc hs (starts n));
 }
 
 pub printed_end : (due held : List ℕ) (after : Bool) (hs : List (Happening (List ℕ))) (w n : List ℕ) (es : List (List ℕ)) → open_elements (tree_of hs).content ≡ es ++ n ∷ [] → PrintedAs due held after hs w →
@@ -51,7 +52,7 @@ printed_end due held after hs w n es o p =
           ∙ ap (λ (x : List Built). print false (without_last_start x)) (sym (copy-end hs es n o))
           ∙ ap (λ (x : List (Happening (List ℕ))). print false (without_last_start (copy_of x))) (sym (without_last_text-append hs ends []));
       text = sym (ap (ends_in_text false) (copy-end hs es n o) ∙ ends_in_text-append false (copy_of hs) (end n ∷ []));
-      last = sym (text_is_last-snoc hs ends);
+      last = sym (ends_in_text-snoc hs ends);
     }
 
 pub printed_text : (due held : List ℕ) (after : Bool) (hs : List (Happening (List ℕ))) (w s : List ℕ) → after ≡ false → PrintedAs due held after hs w →
@@ -66,7 +67,7 @@ printed_text due held after hs w s none p =
       now =
           p.now ∙ ap (λ (x : List (Happening (List ℕ))). print false (without_last_start (copy_of x))) (no_text_last hs last ∙ sym (append-nil hs) ∙ sym (without_last_text-append hs (says s) []));
       text = sym (ap (ends_in_text false) (copy-text hs s) ∙ ends_in_text-append false (copy_of hs) (words s ∷ []));
-      last = sym (text_is_last-snoc hs (says s));
+      last = sym (ends_in_text-snoc hs (says s));
     }
 
 -- where the document is broken off behind a text, all is due

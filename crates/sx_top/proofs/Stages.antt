@@ -1,4 +1,6 @@
 -- How far a document has come behind lines that fit, and which lines may follow there.
+use Rattle.sx_tree.proofs.Follow.{ends_in_text-snoc}
+use Rattle.sx_tree.specs.Events.{ends_in_text as text_is_last}
 use Rattle.std.proofs.Common.{◌≡◌, ℕ, Bool, true, false, not, cond, ◌&&◌, nat_lt, bytes_eq, List, [], ◌∷◌, ◌++◌, length, Option, Some, None, if◌then◌else◌, refl, ap, ap₂, sym, ◌∙◌, subst, arith, append_assoc, append-nil, length-append}
 use Rattle.std.specs.Option.{option_and_then}
 use Rattle.std.proofs.lemmas.Bool.{false≢true}
@@ -6,8 +8,7 @@ use Rattle.sx_esis.specs.Lines.{Line, starts, ends, says, conforms}
 use Rattle.sx_tree.specs.Tree as tree
 use Rattle.sx_tree.specs.Tree.{Happening, Forest, none, text, instruction, element, Document, push_node, push_end, has_open, has_element, open_elements, begun}
 use Rattle.sx_tree.proofs.Open.{open-push_node, open-push_end, open-none, none_open, element-push_start, element-push_end}
-use Rattle.sx_top.specs.Form.{happening, happenings, document_of, text_is_last, has_conformed, last_is, is_whole, fits, all_fit}
-use Rattle.sx_top.proofs.Copies.{text_is_last-snoc}
+use Rattle.sx_top.specs.Form.{happening, happenings, document_of, has_conformed, last_is, is_whole, fits, all_fit}
 use Rattle.sx_top.proofs.Nestings.{happenings-snoc, document-snoc, document-conforms, conformed-snoc, conformed-last, element-push_text, last_is-snoc}
 
 -- Nothing has come; or the root has, with the open elements, the innermost first, and whether a text came last; or the
@@ -87,7 +88,7 @@ some_open f es e is = by (has_open f) refl
 text-snoc : (p : List Line) (l : Line) (h : Happening (List ℕ)) → happening l ≡ h ∷ [] → text_is_last (happenings (p ++ l ∷ [])) ≡ text_is_last (h ∷ [])
 text-snoc p l h is =
     ap text_is_last (happenings-snoc p l ∙ ap (λ (hs : List (Happening (List ℕ))). happenings p ++ hs) is)
-    ∙ text_is_last-snoc (happenings p) h
+    ∙ ends_in_text-snoc (happenings p) h
 
 start_where : (o a b r : Bool) → o ≡ true → a ≡ b → cond o a (not r) ≡ b
 start_where true a b r h e = e

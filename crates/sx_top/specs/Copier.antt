@@ -1,11 +1,12 @@
 -- What the parts of a copier stand for.
+use Rattle.sx_tree.specs.Events.{ends_in_text as text_is_last}
 use Rattle.std.specs.Prelude.{◌≡◌, ℕ, ◌^◌, ◌≤◌, Bool, true, false, List, [], ◌∷◌, ◌++◌, length, slice_get, Some, None}
 use Rattle.sx_esis.specs.Lines.{Line, lines_of}
 use Rattle.sx_esis.specs.Stands as reader
 use Rattle.sx_tree.specs.Tree.{Happening, tree_of, open_elements, has_element}
 use Rattle.sx_tree.specs.declared.ancestors.SpineItem.{SpineItem}
 use Rattle.sx_tree.specs.declared.ancestors.SpineItem.TheVariants as item
-use Rattle.sx_top.specs.Form.{happenings, document_of, text_is_last, has_conformed, without_last_text, all_fit}
+use Rattle.sx_top.specs.Form.{happenings, document_of, has_conformed, without_last_text, all_fit}
 use Rattle.sx_top.specs.Copy.{Built, copied, print, without_last_start, ends_in_text, copy_written, copy_outcome, stated}
 use Rattle.sx_top.specs.declared.nesting.Nesting.{Nesting}
 use Rattle.sx_top.specs.declared.printer.Printer.{Printer}

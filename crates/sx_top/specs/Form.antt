@@ -1,4 +1,5 @@
 -- The form of a document that is read today, and the events of its bytes.
+use Rattle.sx_tree.specs.Events.{is_text, ends_in_text as text_is_last}
 use Rattle.std.specs.Prelude.{ℕ, Bool, true, false, not, ◌&&◌, ◌||◌, nat_lt, bytes_eq, List, [], ◌∷◌, ◌++◌, length, take, is_some, if◌then◌else◌}
 use Rattle.sx_esis.specs.Lines.{Line, starts, ends, says, conforms, Reading, lines_of}
 use Rattle.sx_tree.specs.Tree as tree
@@ -24,19 +25,6 @@ happenings (line ∷ lines) = happening line ++ happenings lines
 -- the open document of these lines
 abbrev pub document_of : List Line → Document (List ℕ)
 document_of lines = tree_of (happenings lines)
-
-abbrev pub is_text : Happening (List ℕ) → Bool
-is_text (tree.says s) = true
-is_text (tree.starts n) = false
-is_text tree.ends = false
-is_text (tree.instructs t c) = false
-is_text tree.closes = false
-
--- whether a text came last
-abbrev pub text_is_last : List (Happening (List ℕ)) → Bool
-text_is_last [] = false
-text_is_last (h ∷ []) = is_text h
-text_is_last (h ∷ next ∷ hs) = text_is_last (next ∷ hs)
 
 -- whether a line said that the document conformed
 abbrev pub has_conformed : List Line → Bool
