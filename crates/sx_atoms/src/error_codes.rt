@@ -2,13 +2,15 @@
 ghost use Rattle.std.specs.Prelude.{◌≡◌};
 ghost use Rattle.sx_atoms.specs.Codes.{name_of};
 
-/// The code of an error, of those that the specification of XSLT 3.0 lists (appendix E).
+/// The code of an error: those of the specification of XSLT 3.0 (appendix E), then those of this program's limits.
 #[derive(Clone, Copy, Debug, PartialEq, Eq)]
 pub enum Code {
     /// An element or an attribute is not allowed where it stands.
     Xtse0010,
     /// The stylesheet cannot be streamed.
     Xtse3430,
+    /// More templates are open at once than the limit.
+    Sxli0001,
 }
 
 impl Code {
@@ -19,6 +21,7 @@ impl Code {
         match self {
             Code::Xtse0010 => *b"XTSE0010",
             Code::Xtse3430 => *b"XTSE3430",
+            Code::Sxli0001 => *b"SXLI0001",
         }
     }
 }
