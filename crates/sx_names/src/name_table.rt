@@ -1,5 +1,5 @@
 // Names and their numbers. A name is kept as the numbers of its two texts, so that a look-up copies nothing.
-ghost use Rattle.std.specs.Prelude.{◌≡◌, ℕ, ◌<◌, ◌↔◌, [], length, slice_get, Some, IfSome, IfNone, IfOk, OnErr, MatchResult};
+ghost use Rattle.std.specs.Prelude.{◌≡◌, ℕ, ◌<◌, ◌↔◌, nat_lt, [], length, slice_get, Some, IfSome, IfNone, IfOk, OnErr, MatchResult};
 ghost use Rattle.sx_names.specs.Numbering.{IsDistinct, IsAbsent, KeepsPlaces, IsNumbered, uri_at, local_at};
 
 use crate::text_table::Texts;
@@ -87,6 +87,13 @@ impl Names {
         let local = self.locals.number(local)?;
         let number = self.parts.get_index_of(&Parts { uri, local })?;
         Some(number as u64)
+    }
+
+    /// Whether a name has this number: whether it is below the number of names.
+    pub fn has(&self, number: u64) -> bool
+        ensures { result ≡ nat_lt number (length self.now) }
+    {
+        number < self.parts.len() as u64
     }
 
     /// The namespace URI of the name with this number, which is the empty text for a name in no namespace.

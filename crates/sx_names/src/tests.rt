@@ -23,7 +23,9 @@ fn a_name_keeps_the_number_of_its_first_time(rt: HostRuntime) -> Result<(), Allo
         assert_eq!(rt; names.find(uri, local), Some(number));
         assert_eq!(rt; names.uri(given), uri);
         assert_eq!(rt; names.local(given), local);
+        assert!(rt; names.has(given));
     }
     assert_eq!(rt; names.find("urn:a", "chapter"), None);
+    assert!(rt; !names.has(6));
     Ok(())
 }
