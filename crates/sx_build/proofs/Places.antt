@@ -4,12 +4,13 @@ use Rattle.std.specs.Option.{option_map_or}
 use Rattle.std.proofs.lemmas.Option.{slice_get-get_or, slice_get_within}
 use Rattle.std.proofs.Common.{get_or}
 use Rattle.sx_names.specs.Numbering.{KeepsPlaces, local_at}
+use Rattle.sx_tree.specs.declared.events.Label.{Label}
 use Rattle.sx_lines.specs.declared.events.Built.{Built}
 use Rattle.sx_lines.specs.declared.events.Built.TheVariants as event
 use Rattle.sx_build.specs.declared.raw.Raw.{Raw}
 use Rattle.sx_build.specs.declared.raw.Raw.TheVariants as raw
 use Rattle.sx_build.specs.declared.builder.Builder.{Builder}
-use Rattle.sx_build.specs.Build.{prefixed, gives, open_after, built_in, open_in, without_last_start, Build, HasNumber, HaveNumbers}
+use Rattle.sx_build.specs.Build.{prefixed, printed_name, gives, open_after, built_in, open_in, without_last_start, Build, HasNumber, HaveNumbers}
 use Rattle.sx_build.specs.Builder.{turned, Stands}
 
 module _ (names names' : List (List ℕ × List ℕ)) (keeps : KeepsPlaces names names') where
@@ -21,13 +22,16 @@ module _ (names names' : List (List ℕ × List ℕ)) (keeps : KeepsPlaces names
   local_same n within =
       ap (λ (found : Option (List ℕ × List ℕ)). option_map_or (λ (name : List ℕ × List ℕ). name.1) found []) (sym (keeps n within))
 
+  pub printed_same : (label : Label) → label.number < length names → printed_name names label ≡ printed_name names' label
+  printed_same label within = ap (prefixed label.prefix) (local_same label.number within)
+
   gives_same : (elements : List (List ℕ)) (r : Raw) → HasNumber names r → gives names elements r ≡ gives names' elements r
-  gives_same elements (raw.Start label) has = ap (λ (local : List ℕ). event.Start (prefixed label.prefix local) [] ∷ []) (local_same label.number has)
+  gives_same elements (raw.Start label) has = ap (λ (name : List ℕ). event.Start name [] ∷ []) (printed_same label has)
   gives_same elements raw.End has = refl
   gives_same elements (raw.Text text) has = refl
 
   open_same : (elements : List (List ℕ)) (r : Raw) → HasNumber names r → open_after names elements r ≡ open_after names' elements r
-  open_same elements (raw.Start label) has = ap (λ (local : List ℕ). prefixed label.prefix local ∷ elements) (local_same label.number has)
+  open_same elements (raw.Start label) has = ap (λ (name : List ℕ). name ∷ elements) (printed_same label has)
   open_same [] raw.End has = refl
   open_same (name ∷ elements) raw.End has = refl
   open_same elements (raw.Text text) has = refl

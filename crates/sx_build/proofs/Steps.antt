@@ -1,5 +1,5 @@
 -- What a builder does at each event, and what it gives.
-use Rattle.std.proofs.Common.{◌≡◌, ℕ, ◌<◌, Bool, true, false, List, [], ◌∷◌, ◌++◌, Option, Some, None, inr, length, drop, refl, ap, sym, ◌∙◌, append_assoc, append-nil, arith}
+use Rattle.std.proofs.Common.{◌≡◌, ℕ, ◌<◌, Bool, true, false, List, [], ◌∷◌, ◌++◌, Option, Some, None, inr, length, drop, refl, ap, sym, ◌∙◌, subst, append_assoc, append-nil}
 use Rattle.std.proofs.Math.Seq.{drop-append_seam}
 use Rattle.std.specs.Prelude.{MatchOption}
 use Rattle.sx_tree.specs.declared.events.Label.{Label}
@@ -7,7 +7,7 @@ use Rattle.sx_lines.specs.declared.events.Built.{Built}
 use Rattle.sx_lines.specs.declared.events.Built.TheVariants as event
 use Rattle.sx_build.specs.declared.raw.Raw.{Raw}
 use Rattle.sx_build.specs.declared.raw.Raw.TheVariants as raw
-use Rattle.sx_build.specs.Build.{printed_name, gives, open_after, built, open_names, is_start, without_last_start, Build, HasNumber}
+use Rattle.sx_build.specs.Build.{printed_name, end_of, gives, open_after, built, open_names, is_start, without_last_start, Build, HasNumber}
 use Rattle.sx_build.specs.Builder.{turned, IsHeld, StandsAs}
 use Rattle.sx_build.proofs.Lists.{not_snoc, snoc_same, one_item}
 use Rattle.sx_build.proofs.Growth.{built-snoc, open_in-snoc, numbered-snoc, last-append, last_fixed}
@@ -72,10 +72,11 @@ module _ (elements : List (List ℕ)) (pending spare : List Built) (withheld : B
         numbered = numbered-snoc names raws r s.numbered numbered;
       }
 
-  pub nothing_said : (text : List ℕ) → text ≡ [] → StandsAs elements pending spare withheld names (raws ++ raw.Text text ∷ []) false given
-  nothing_said [] is =
-      let r = raw.Text [] in
-      let same : built names raws ≡ built names (raws ++ r ∷ []) = sym (built-snoc names raws r ∙ append-nil (built names raws)) in
+  nothing_given : (r : Raw) → gives names (open_names names raws) r ≡ [] → open_after names (open_names names raws) r ≡ open_names names raws
+      → HasNumber names r → StandsAs elements pending spare withheld names (raws ++ r ∷ []) false given
+  nothing_given r gave opened numbered =
+      let same : built names raws ≡ built names (raws ++ r ∷ []) =
+      sym (built-snoc names raws r ∙ ap (λ (es : List Built). built names raws ++ es) gave ∙ append-nil (built names raws)) in
       record {
         front = s.front;
         fixed = s.fixed;
@@ -85,9 +86,12 @@ module _ (elements : List (List ℕ)) (pending spare : List Built) (withheld : B
         held_is = s.held_is;
         whole = s.whole ∙ same;
         due = s.due ∙ ap without_last_start same;
-        elements_are = s.elements_are ∙ ap turned (sym (open_in-snoc names [] raws r));
-        numbered = numbered-snoc names raws r s.numbered tt;
+        elements_are = s.elements_are ∙ ap turned (sym (open_in-snoc names [] raws r ∙ opened));
+        numbered = numbered-snoc names raws r s.numbered numbered;
       }
+
+  pub nothing_said : (text : List ℕ) → text ≡ [] → StandsAs elements pending spare withheld names (raws ++ raw.Text text ∷ []) false given
+  nothing_said [] is = nothing_given (raw.Text []) refl refl tt
   nothing_said (b ∷ bs) is = absurd (cc)
 
   pub something_said : (text : List ℕ) (elements' : List (List ℕ)) (pending' spare' : List Built) (withheld' : Bool) → withheld' ≡ false → ¬ (text ≡ []) → pending' ≡ pending ++ event.Text text ∷ []
@@ -112,12 +116,15 @@ module _ (elements : List (List ℕ)) (pending spare : List Built) (withheld : B
   ended rest name pending' spare' withheld' free popped pushed =
       ended_in (open_names names raws) rest name pending' spare' withheld' free refl (sym popped ∙ s.elements_are) pushed
 
-  none_open : (open_ones : List (List ℕ)) → [] ≡ turned open_ones → 0 < length open_ones → ⊥
-  none_open [] turns some = omega (arith, some)
-  none_open (n ∷ ns) turns some = not_snoc (turned ns) n turns
+  none_open : (open_ones : List (List ℕ)) → [] ≡ turned open_ones → open_ones ≡ []
+  none_open [] turns = refl
+  none_open (n ∷ ns) turns = absurd (not_snoc (turned ns) n turns)
 
-  pub not_ended : elements ≡ [] → 0 < length (open_names names raws) → ⊥
-  not_ended empty some = none_open (open_names names raws) (sym empty ∙ s.elements_are) some
+  pub nothing_ended : (rest : List (List ℕ)) → elements ≡ [] → rest ≡ [] → StandsAs rest pending spare withheld names (raws ++ raw.End ∷ []) false given
+  nothing_ended rest empty none_left =
+      let none = none_open (open_names names raws) (sym empty ∙ s.elements_are) in
+      subst (λ (es : List (List ℕ)). StandsAs es pending spare withheld names (raws ++ raw.End ∷ []) false given) (empty ∙ sym none_left)
+      (nothing_given raw.End (ap end_of none) (ap (λ (es : List (List ℕ)). open_after names es raw.End) none ∙ sym none) tt)
 
 module _ (elements : List (List ℕ)) (pending spare : List Built) (names : List (List ℕ × List ℕ)) (raws : List Raw) (at_end : Bool) (given : ℕ) where
   pub due_is : (s : StandsAs elements pending spare true names raws at_end given) → s.fixed ≡ drop given (Build names raws at_end)

@@ -86,9 +86,3 @@ HasNumber names (raw.Text text) = Unit {0}
 abbrev pub HaveNumbers : List (List ℕ × List ℕ) → List Raw → Type 0
 HaveNumbers names [] = Unit {0}
 HaveNumbers names (r ∷ raws) = HasNumber names r × HaveNumbers names raws
-
--- an element is open where an end comes
-abbrev pub MayEnd : List (List ℕ) → Raw → Type 0
-MayEnd elements (raw.Start label) = Unit {0}
-MayEnd elements raw.End = 0 < length elements
-MayEnd elements (raw.Text text) = Unit {0}

@@ -3,6 +3,7 @@ ghost use Rattle.std.specs.Prelude.{◌≡◌, ◌<◌, [], ◌∷◌, ◌++◌,
 ghost use Rattle.sx_lines.specs.declared.events.Built.TheVariants as event;
 ghost use Rattle.sx_build.specs.declared.raw.Raw.{Raw as Request};
 ghost use Rattle.sx_build.specs.declared.raw.Raw.TheVariants as raw;
+ghost use Rattle.sx_names.specs.Numbering.{local_at};
 ghost use Rattle.sx_build.specs.Build.{printed_name};
 
 use crate::Raw;
@@ -32,12 +33,21 @@ pub struct Builder {
     spent: bool,
 }
 
+// The local name with this number, or the empty text where no name has it.
+fn local_name(names: &Names, number: u64) -> &str
+    ensures { result.now ≡ local_at names.now number }
+{
+    if !names.has(number) {
+        return "";
+    }
+    names.local(number)
+}
+
 // The printed name of a label.
 fn print_name(alloc: Global, label: &Label, names: &Names) -> Result<Chars, AllocError>
-    requires { label.now.number < length names.now }
     ensures { IfOk result (λ name. name ≡ printed_name names.now label.now) }
 {
-    let local = names.local(label.number);
+    let local = local_name(names, label.number);
     let prefix = label.prefix.as_str();
     if prefix.is_empty() {
         return Chars::copy(alloc, local);
@@ -68,7 +78,8 @@ fn one(alloc: Global, e: Built) -> Result<Builts, AllocError>
 }
 
 impl Builder {
-    ghost use Rattle.sx_build.specs.Build.{Build, open_names, HasNumber, MayEnd};
+    ghost use Rattle.sx_build.specs.Build.{Build, HasNumber};
+    ghost use Rattle.sx_names.specs.Numbering.{KeepsPlaces};
     ghost use Rattle.sx_build.specs.Builder.{Stands, is_spent};
 
     /// A builder that nothing was asked of. It takes no memory.
@@ -86,12 +97,12 @@ impl Builder {
         }
     }
 
-    /// Takes what comes next, where `finish` was not called and an end has an open element. An empty text gives nothing.
+    /// Takes what comes next, where `finish` was not called. It stands by the names that were known before, where those of now
+    /// keep their places. An empty text gives nothing, and neither does an end where no element is open.
     /// After an `AllocError` the builder is spent: each later push answers one, and what it gives is not said.
     pub fn push(&mut self, raw: Raw, names: &Names) -> Result<(), AllocError>
-        requires { HasNumber names.now raw }
-        ensures ok { OnOk result ((raws : List Request) (given : ℕ) → MayEnd (open_names names.now raws) raw
-            → Stands self.old names.now raws false given → Stands self.new names.now (raws ++ raw ∷ []) false given) }
+        ensures ok { OnOk result ((known : List (List ℕ × List ℕ)) (raws : List Request) (given : ℕ) → KeepsPlaces known names.now → HasNumber known raw
+            → Stands self.old known raws false given → Stands self.new known (raws ++ raw ∷ []) false given) }
         ensures err { OnErr result (is_spent self.new ≡ true) }
         ensures spent { is_spent self.old ≡ true → IsErr result }
         ensures kept { OnOk result (is_spent self.new ≡ is_spent self.old) }
@@ -110,9 +121,8 @@ impl Builder {
 
     // Takes what comes next.
     fn take(&mut self, raw: Raw, names: &Names) -> Result<(), AllocError>
-        requires { HasNumber names.now raw }
-        ensures ok { OnOk result ((raws : List Request) (given : ℕ) → MayEnd (open_names names.now raws) raw
-            → Stands self.old names.now raws false given → Stands self.new names.now (raws ++ raw ∷ []) false given) }
+        ensures ok { OnOk result ((known : List (List ℕ × List ℕ)) (raws : List Request) (given : ℕ) → KeepsPlaces known names.now → HasNumber known raw
+            → Stands self.old known raws false given → Stands self.new known (raws ++ raw ∷ []) false given) }
         ensures kept { OnOk result (is_spent self.new ≡ is_spent self.old) }
     {
         match raw {
@@ -124,9 +134,8 @@ impl Builder {
 
     // An element begins. Its start is withheld.
     fn take_start(&mut self, label: &Label, names: &Names) -> Result<(), AllocError>
-        requires { label.now.number < length names.now }
-        ensures ok { OnOk result ((raws : List Request) (given : ℕ)
-            → Stands self.old names.now raws false given → Stands self.new names.now (raws ++ raw.Start label.now ∷ []) false given) }
+        ensures ok { OnOk result ((known : List (List ℕ × List ℕ)) (raws : List Request) (given : ℕ) → KeepsPlaces known names.now → label.now.number < length known
+            → Stands self.old known raws false given → Stands self.new known (raws ++ raw.Start label.now ∷ []) false given) }
         ensures kept { OnOk result (is_spent self.new ≡ is_spent self.old) }
     {
         let name = print_name(self.alloc, label, names)?;
@@ -137,9 +146,9 @@ impl Builder {
         Ok(())
     }
 
-    // The innermost open element ends.
+    // The innermost open element ends, if one is open.
     fn take_end(&mut self) -> Result<(), AllocError>
-        ensures ok { OnOk result ((names : List (List ℕ × List ℕ)) (raws : List Request) (given : ℕ) → 0 < length (open_names names raws)
+        ensures ok { OnOk result ((names : List (List ℕ × List ℕ)) (raws : List Request) (given : ℕ)
             → Stands self.old names raws false given → Stands self.new names (raws ++ raw.End ∷ []) false given) }
         ensures kept { OnOk result (is_spent self.new ≡ is_spent self.old) }
     {

@@ -65,3 +65,17 @@ fn a_start_waits_for_what_is_behind_it(rt: HostRuntime) -> Result<(), AllocError
     assert_eq!(rt; given(alloc, b)?.as_str(), "");
     Ok(())
 }
+
+#[test]
+fn an_end_of_nothing_and_an_unknown_name_are_taken(rt: HostRuntime) -> Result<(), AllocError> {
+    let alloc = rt.alloc();
+    let names = sx_names::new(alloc);
+    let mut builder = Builder::new(alloc);
+    builder.push(Raw::End, &names)?;
+    assert_eq!(rt; given(alloc, &mut builder)?.as_str(), "");
+    let prefix = Chars::copy(alloc, "p")?;
+    builder.push(Raw::Start(Label { number: 0, prefix }), &names)?;
+    builder.push(Raw::End, &names)?;
+    assert_eq!(rt; given(alloc, &mut builder)?.as_str(), "(p:\n)p:\n");
+    Ok(())
+}
