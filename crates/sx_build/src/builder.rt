@@ -97,11 +97,12 @@ impl Builder {
         }
     }
 
-    /// Takes what comes next, where `finish` was not called. It stands by the names that were known before, where those of now
-    /// keep their places. An empty text gives nothing, and neither does an end where no element is open.
+    /// Takes what comes next, where `finish` was not called. It stands by the names that its caller knew, where
+    /// those of now keep their places. An empty text gives nothing, and neither does an end where no element is open.
     /// After an `AllocError` the builder is spent: each later push answers one, and what it gives is not said.
     pub fn push(&mut self, raw: Raw, names: &Names) -> Result<(), AllocError>
-        ensures ok { OnOk result ((known : List (List ℕ × List ℕ)) (raws : List Request) (given : ℕ) → KeepsPlaces known names.now → HasNumber known raw
+        ensures ok { OnOk result ((known : List (List ℕ × List ℕ)) (raws : List Request) (given : ℕ)
+            → KeepsPlaces known names.now → HasNumber known raw
             → Stands self.old known raws false given → Stands self.new known (raws ++ raw ∷ []) false given) }
         ensures err { OnErr result (is_spent self.new ≡ true) }
         ensures spent { is_spent self.old ≡ true → IsErr result }
@@ -121,7 +122,8 @@ impl Builder {
 
     // Takes what comes next.
     fn take(&mut self, raw: Raw, names: &Names) -> Result<(), AllocError>
-        ensures ok { OnOk result ((known : List (List ℕ × List ℕ)) (raws : List Request) (given : ℕ) → KeepsPlaces known names.now → HasNumber known raw
+        ensures ok { OnOk result ((known : List (List ℕ × List ℕ)) (raws : List Request) (given : ℕ)
+            → KeepsPlaces known names.now → HasNumber known raw
             → Stands self.old known raws false given → Stands self.new known (raws ++ raw ∷ []) false given) }
         ensures kept { OnOk result (is_spent self.new ≡ is_spent self.old) }
     {
@@ -134,8 +136,10 @@ impl Builder {
 
     // An element begins. Its start is withheld.
     fn take_start(&mut self, label: &Label, names: &Names) -> Result<(), AllocError>
-        ensures ok { OnOk result ((known : List (List ℕ × List ℕ)) (raws : List Request) (given : ℕ) → KeepsPlaces known names.now → label.now.number < length known
-            → Stands self.old known raws false given → Stands self.new known (raws ++ raw.Start label.now ∷ []) false given) }
+        ensures ok { OnOk result ((known : List (List ℕ × List ℕ)) (raws : List Request) (given : ℕ)
+            → KeepsPlaces known names.now → label.now.number < length known
+            → Stands self.old known raws false given
+            → Stands self.new known (raws ++ raw.Start label.now ∷ []) false given) }
         ensures kept { OnOk result (is_spent self.new ≡ is_spent self.old) }
     {
         let name = print_name(self.alloc, label, names)?;

@@ -20,7 +20,8 @@ fn start(
 
 // A text comes.
 fn text(alloc: Global, builder: &mut Builder, names: &Names, text: &str) -> Result<(), AllocError> {
-    builder.push(Raw::Text(Chars::copy(alloc, text)?), names)
+    let raw = Raw::Text(Chars::copy(alloc, text)?);
+    builder.push(Raw::copy(alloc, &raw)?, names)
 }
 
 // What is given now, each event printed by itself.
