@@ -1,0 +1,9 @@
+pub mod Outs
+pub mod Bodies
+pub mod Splits
+pub mod Steps
+pub mod Tasks
+pub mod Machine
+pub mod Rules
+pub mod Moves
+pub mod Events

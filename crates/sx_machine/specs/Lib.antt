@@ -1,0 +1,5 @@
+pub mod Body
+pub mod Choice
+pub mod Run
+pub mod Plan
+pub mod Session

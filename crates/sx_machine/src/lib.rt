@@ -1,0 +1,14 @@
+//! A session: the events of a document in, the built events of a stylesheet's result out, and no tree between.
+#![tactic(auto)]
+
+mod plans;
+mod session;
+#[cfg(test)]
+mod tests;
+
+// A contract of another crate can speak of `Session` only if the types of its fields are exported.
+#[doc(hidden)]
+pub use plans::{Plan, Rule};
+#[doc(hidden)]
+pub use session::{Frame, Job};
+pub use session::{Session, State, Step};
