@@ -79,6 +79,8 @@ module _ (written : List ℕ → Bool → List ℕ) (outcome : List ℕ → Bool
   opened_so : (name : List ℕ) (old new : Seen) (s : Status) → s ≢ status.OpenFault → Opened written outcome name old new s → OpensOrNot written outcome name old new s
   opened_so name old new status.Ok n x = x
   opened_so name old new status.Usage n x = x
+  opened_so name old new (status.Static c l) n x = x
+  opened_so name old new (status.Dynamic c) n x = x
   opened_so name old new (status.Refused i) n x = x
   opened_so name old new status.OpenFault n x = absurd (n refl)
   opened_so name old new status.ReadFault n x = x
@@ -179,6 +181,8 @@ module _ (written : List ℕ → Bool → List ℕ) (outcome : List ℕ → Bool
   run_after : (name : List ℕ) (old mid new : Seen) (s : Status) → Untouched mid new → IsTrue new.told → OpensOrNot written outcome name old mid s → OpensOrNot written outcome name old new s
   run_after name old mid new status.Ok u t x = opened_after name old mid new status.Ok u t x
   run_after name old mid new status.Usage u t x = opened_after name old mid new status.Usage u t x
+  run_after name old mid new (status.Static c l) u t x = opened_after name old mid new (status.Static c l) u t x
+  run_after name old mid new (status.Dynamic c) u t x = opened_after name old mid new (status.Dynamic c) u t x
   run_after name old mid new (status.Refused i) u t x = opened_after name old mid new (status.Refused i) u t x
   run_after name old mid new status.OpenFault u t x =
       let y = u.told t in

@@ -1,5 +1,7 @@
 -- What a status is to the user.
-use Rattle.std.specs.Prelude.{ℕ, List, [], ◌∷◌, ◌++◌, codes}
+use Rattle.std.specs.Prelude.{ℕ, List, [], ◌∷◌, ◌++◌, codes, decimal}
+use Rattle.sx_atoms.specs.Codes.{name_of}
+use Rattle.sx_atoms.specs.declared.error_codes.Code.{Code}
 use Rattle.sx_top.specs.declared.status.Input.TheVariants as input
 use Rattle.sx_top.specs.declared.status.Status.{Status}
 use Rattle.sx_top.specs.declared.status.Status.TheVariants as status
@@ -8,16 +10,28 @@ use Rattle.sx_top.specs.declared.status.Status.TheVariants as status
 abbrev pub number_of : Status → ℕ
 number_of status.Ok = 0
 number_of status.Usage = 1
+number_of (status.Static c l) = 2
+number_of (status.Dynamic c) = 3
 number_of (status.Refused i) = 4
 number_of status.OpenFault = 5
 number_of status.ReadFault = 6
 number_of status.WriteFault = 7
 number_of status.OutOfMemory = 9
 
+-- the line of an error on a line of the stylesheet, whose number it names
+abbrev pub static_line : Code → ℕ → List ℕ
+static_line code line = codes "error " ++ name_of code ++ codes " line " ++ decimal line ++ 10 ∷ []
+
+-- the line of an error that was found while the document was read
+abbrev pub dynamic_line : Code → List ℕ
+dynamic_line code = codes "error " ++ name_of code ++ 10 ∷ []
+
 -- the line on the diagnostic output
 abbrev pub diagnostic_of : Status → List ℕ
 diagnostic_of status.Ok = []
 diagnostic_of status.Usage = codes "error usage" ++ 10 ∷ []
+diagnostic_of (status.Static c l) = static_line c l
+diagnostic_of (status.Dynamic c) = dynamic_line c
 diagnostic_of (status.Refused input.Sheet) = codes "error sheet" ++ 10 ∷ []
 diagnostic_of (status.Refused input.Document) = codes "error document" ++ 10 ∷ []
 diagnostic_of status.OpenFault = codes "error open" ++ 10 ∷ []

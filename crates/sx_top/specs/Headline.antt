@@ -58,6 +58,8 @@ module _ (written : List ℕ → Bool → List ℕ) (outcome : List ℕ → Bool
   abbrev pub Answers : Status → List ℕ → Bool → List ℕ → Type 0
   Answers status.Ok b ended w = IsTrue ended × Determined outcomes.Done b ended w
   Answers status.Usage b ended w = ⊥
+  Answers (status.Static c l) b ended w = ⊥
+  Answers (status.Dynamic c) b ended w = ⊥
   Answers (status.Refused input.Sheet) b ended w = ⊥
   Answers (status.Refused input.Document) b ended w = Determined outcomes.Refused b ended w
   Answers status.OpenFault b ended w = ⊥

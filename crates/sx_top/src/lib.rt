@@ -19,5 +19,5 @@ pub mod laws;
 pub use consumer::{Consumer, Outcome};
 pub use program::top;
 pub use reading::transfer;
-pub use status::{Input, Status};
+pub use status::{DiagnosticLine, Input, Status};
 pub use words::{Command, parse_words};

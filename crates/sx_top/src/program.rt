@@ -34,6 +34,6 @@ pub fn top<D: Desk>(alloc: Global, words: &[String], desk: &mut D) -> Status
         Some(command) => copy(alloc, command.document(), desk),
         None => Status::Usage,
     };
-    let _ = write_all(desk, Out::Diagnostic, status.diagnostic());
+    let _ = write_all(desk, Out::Diagnostic, status.diagnostic().as_slice());
     status
 }

@@ -1,6 +1,14 @@
 // How a call of the program ended.
-ghost use Rattle.std.specs.Prelude.{◌≡◌};
-ghost use Rattle.sx_top.specs.Answers.{number_of, diagnostic_of};
+ghost use Rattle.std.specs.Prelude.{◌≡◌, ◌+◌, ◌≤◌, ◌++◌, length};
+ghost use Rattle.arrayvec.specs.ArrayVec.{array_vec_len};
+ghost use Rattle.sx_top.specs.Answers.{number_of, diagnostic_of, static_line, dynamic_line};
+
+use arrayvec::ArrayVec;
+use itoa::Buffer;
+use sx_atoms::Code;
+
+/// A line of the diagnostic output; the longest has `error`, a code, `line` and a number of twenty digits.
+pub type DiagnosticLine = ArrayVec<u8, 41>;
 
 /// Which of the two inputs.
 #[derive(Clone, Copy, Debug, PartialEq, Eq)]
@@ -18,6 +26,18 @@ pub enum Status {
     Ok,
     /// The words are none that the program knows.
     Usage,
+    /// The stylesheet has an error on this line.
+    Static {
+        /// That error.
+        code: Code,
+        /// The number of the line, from 1.
+        line: u64,
+    },
+    /// An error was found while the document was read.
+    Dynamic {
+        /// That error.
+        code: Code,
+    },
     /// An input has not the form that is read today.
     Refused {
         /// That input.
@@ -33,6 +53,49 @@ pub enum Status {
     OutOfMemory,
 }
 
+// Appends a part for which there is room.
+fn add(line: &mut DiagnosticLine, part: &[u8])
+    requires { array_vec_len line.old + length part.now ≤ 41 }
+    ensures { line.new.items ≡ line.old.items ++ part.now }
+{
+    let _ = line.try_extend_from_slice(part);
+}
+
+// A line of these bytes.
+fn plain(text: &[u8]) -> DiagnosticLine
+    requires { length text.now ≤ 41 }
+    ensures { result.items ≡ text.now }
+{
+    let mut line = DiagnosticLine::new();
+    add(&mut line, text);
+    line
+}
+
+// The line of an error in the stylesheet.
+fn static_error(code: Code, number: u64) -> DiagnosticLine
+    ensures { result.items ≡ static_line code number }
+{
+    let mut buffer = Buffer::new();
+    let mut line = DiagnosticLine::new();
+    add(&mut line, b"error ");
+    add(&mut line, &code.text());
+    add(&mut line, b" line ");
+    add(&mut line, buffer.format(number).as_bytes());
+    add(&mut line, b"\n");
+    line
+}
+
+// The line of an error that was found while the document was read.
+fn dynamic_error(code: Code) -> DiagnosticLine
+    ensures { result.items ≡ dynamic_line code }
+{
+    let mut line = DiagnosticLine::new();
+    add(&mut line, b"error ");
+    add(&mut line, &code.text());
+    add(&mut line, b"\n");
+    line
+}
+
 impl Status {
     /// The exit status of the program.
     pub fn number(&self) -> u8
@@ -41,6 +104,8 @@ impl Status {
         match self {
             Status::Ok => 0,
             Status::Usage => 1,
+            Status::Static { .. } => 2,
+            Status::Dynamic { .. } => 3,
             Status::Refused { .. } => 4,
             Status::OpenFault => 5,
             Status::ReadFault => 6,
@@ -50,22 +115,24 @@ impl Status {
     }
 
     /// The line that is written to the diagnostic output, with its newline; nothing after `Ok`.
-    pub fn diagnostic(&self) -> &'static [u8]
-        ensures { result.now ≡ diagnostic_of self.now }
+    pub fn diagnostic(&self) -> DiagnosticLine
+        ensures { result.items ≡ diagnostic_of self.now }
     {
         match self {
-            Status::Ok => b"",
-            Status::Usage => b"error usage\n",
+            Status::Ok => plain(b""),
+            Status::Usage => plain(b"error usage\n"),
+            Status::Static { code, line } => static_error(*code, *line),
+            Status::Dynamic { code } => dynamic_error(*code),
             Status::Refused {
                 input: Input::Sheet,
-            } => b"error sheet\n",
+            } => plain(b"error sheet\n"),
             Status::Refused {
                 input: Input::Document,
-            } => b"error document\n",
-            Status::OpenFault => b"error open\n",
-            Status::ReadFault => b"error read\n",
-            Status::WriteFault => b"error write\n",
-            Status::OutOfMemory => b"error memory\n",
+            } => plain(b"error document\n"),
+            Status::OpenFault => plain(b"error open\n"),
+            Status::ReadFault => plain(b"error read\n"),
+            Status::WriteFault => plain(b"error write\n"),
+            Status::OutOfMemory => plain(b"error memory\n"),
         }
     }
 }
