@@ -2,13 +2,12 @@
 use Rattle.std.proofs.Common.{◌≡◌, List, [], ◌∷◌, ◌++◌, ap, ◌∙◌, sym, subst, ℕ}
 use Rattle.std.proofs.lemmas.List.{map-append}
 use Rattle.sx_tree.specs.declared.events.Event.{Event}
-use Rattle.sx_tree.specs.Events.{Element, happening_of, happenings_of, MayFollow}
-use Rattle.sx_tree.specs.Tree.{Document, Happening, starts, ends, says, instructs, closes, push, tree_of}
+use Rattle.sx_tree.specs.Events.{Element, happening_of, happenings_of}
+use Rattle.sx_tree.specs.Tree.{Document, Happening, push, tree_of}
 use Rattle.sx_tree.proofs.Open.{tree_of-snoc}
 use Rattle.sx_kinds.specs.declared.sheets.Sheet.{Sheet}
 use Rattle.sx_machine.specs.declared.session.Session.{Session}
 use Rattle.sx_machine.specs.Session.{StandsOn, Stands}
-use Rattle.sx_machine.proofs.Machine.{ClosesWhole}
 
 -- the tree of one event more
 pub tree_more : (p : List Event) (e : Event) → tree_of (happenings_of (p ++ e ∷ [])) ≡ push (tree_of (happenings_of p)) (happening_of e)
@@ -19,11 +18,3 @@ pub stands_more : (sheet : Sheet) (names : List (List ℕ × List ℕ)) (s : Ses
     StandsOn sheet names s (push (tree_of (happenings_of p)) h) given → Stands sheet names s (p ++ e ∷ []) given
 stands_more sheet names s p e h given is stands =
     subst (λ (d : Document Element). StandsOn sheet names s d given) (sym (tree_more p e ∙ ap (push (tree_of (happenings_of p))) is)) stands
-
--- where the close comes no element is open
-pub closes_whole : (hs : List (Happening Element)) (h : Happening Element) → MayFollow hs h → ClosesWhole (tree_of hs) h
-closes_whole hs (starts e) m = tt
-closes_whole hs ends m = tt
-closes_whole hs (says s) m = tt
-closes_whole hs (instructs target c) m = tt
-closes_whole hs closes m = m.allowed

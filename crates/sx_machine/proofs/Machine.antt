@@ -13,6 +13,7 @@ use Rattle.sx_machine.specs.Body.{Body}
 use Rattle.sx_machine.specs.Choice.{chosen_for, chosen_by}
 use Rattle.sx_machine.specs.Run.{Out, Ending, done, waits, stops, gives, meaning, applied, is_done}
 use Rattle.sx_machine.specs.Plan.{Task, tasks, reacts, task_of}
+use Rattle.sx_machine.specs.Growth.{ClosesWhole}
 use Rattle.sx_machine.specs.Session.{IsReady, StandsOn, meaning_on, state_of, root}
 use Rattle.sx_machine.proofs.Outs.{IsGoing, GoingAt, out, resume, resumed, resume_waits, resume_stops}
 use Rattle.sx_machine.proofs.Bodies.{IsGood, good_chosen}
@@ -21,7 +22,8 @@ use Rattle.sx_machine.proofs.Steps.{GoesOn, pushed, step, going, closed, reacts_
 abbrev pub document : {E : Type 0} → Forest E → Bool → Document E
 document content is_open = record { content = content; is_open = is_open }
 
-push_is : {E : Type 0} (d : Document E) (h : Happening E) → GoesOn h → push d h ≡ document (pushed d.content h) d.is_open
+-- the document of its nodes after what happens in them
+pub push_is : {E : Type 0} (d : Document E) (h : Happening E) → GoesOn h → push d h ≡ document (pushed d.content h) d.is_open
 push_is d (starts e) g = refl
 push_is d ends g = refl
 push_is d (says s) g = refl
@@ -99,9 +101,9 @@ module _ (sheet : Sheet) (names : List (List ℕ × List ℕ)) (old new : Sessio
   stands_next h r going_on o g is rules built state_is frames =
       let w : before.ending ≡ waits = waits_if_going before.ending (sym s.state_is ∙ going_on) in
       let comes : reacts (chosen_for sheet.templates) root (tasks (chosen_for sheet.templates) root d.content) h ≡ r =
-          ap (λ (ts : List Task). reacts (chosen_for sheet.templates) root ts h) (sym (s.frames_are going_on)) ∙ is in
+      ap (λ (ts : List Task). reacts (chosen_for sheet.templates) root ts h) (sym (s.frames_are going_on)) ∙ is in
       let after : meaning_on sheet (push d h) ≡ out (before.raw ++ r.raw) r.ending =
-          meaning_next sheet names s.ready d h o g ∙ ap (resume before) comes ∙ resume_waits before r w in
+      meaning_next sheet names s.ready d h o g ∙ ap (resume before) comes ∙ resume_waits before r w in
       let goes : IsGoing r = subst IsGoing comes (reacts_going (chosen_for sheet.templates) (all_good sheet names s.ready) root (tasks (chosen_for sheet.templates) root d.content) h g) in
       record {
         ready = s.ready;
@@ -118,7 +120,7 @@ module _ (sheet : Sheet) (names : List (List ℕ × List ℕ)) (old new : Sessio
   stands_closed going_on o h rules built state_is =
       let w : before.ending ≡ waits = waits_if_going before.ending (sym s.state_is ∙ going_on) in
       let after : meaning_on sheet (push d closes) ≡ out before.raw done =
-          meaning_closed sheet names s.ready d o h ∙ resume_waits before (gives []) w ∙ ap (λ (raws : List Raw). out raws done) (append-nil before.raw) in
+      meaning_closed sheet names s.ready d o h ∙ resume_waits before (gives []) w ∙ ap (λ (raws : List Raw). out raws done) (append-nil before.raw) in
       record {
         ready = s.ready;
         rules_are = rules ∙ s.rules_are;
@@ -129,14 +131,6 @@ module _ (sheet : Sheet) (names : List (List ℕ × List ℕ)) (old new : Sessio
     where
       closed_not_going : state.Closed ≡ state.Going → ⊥
       closed_not_going e = cc
-
--- the allowed is_open: it is not the close, or no element is open
-abbrev pub ClosesWhole : Document Element → Happening Element → Type 0
-ClosesWhole d (starts e) = Unit {0}
-ClosesWhole d ends = Unit {0}
-ClosesWhole d (says s) = Unit {0}
-ClosesWhole d (instructs target c) = Unit {0}
-ClosesWhole d closes = has_open d.content ≡ false
 
 module _ (sheet : Sheet) (names : List (List ℕ × List ℕ)) (old : Session) (d : Document Element) (given : ℕ) (s : StandsOn sheet names old d given) where
   same_meaning : (c : Code) (x : Out) → old.state ≡ state.Stopped c → (e : x ≡ meaning_on sheet d) → (h : Happening Element) → meaning_on sheet (push d h) ≡ x → StandsOn sheet names old (push d h) given

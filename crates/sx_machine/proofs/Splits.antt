@@ -114,10 +114,10 @@ split k nil h = refl
 split k (literal line label content rest) h =
     ap₂ (λ (x y : Out). next (wrap label x) y) (split k content h.0) (split k rest h.1)
     ∙ sym (
-      mean_then (started (raw.Start label) content) (plan_of rest) k
-          (one_looks_at (started (raw.Start label) content).behind (plan_of rest).behind (consumes content) (consumes rest)
-          (looks_started (raw.Start label) content ∙ looks content) (looks rest) h.2)
-      ∙ ap (λ (o : Out). next o (mean (plan_of rest) k)) (wrapped (raw.Start label) content k)
+    mean_then (started (raw.Start label) content) (plan_of rest) k
+    (one_looks_at (started (raw.Start label) content).behind (plan_of rest).behind (consumes content) (consumes rest)
+    (looks_started (raw.Start label) content ∙ looks content) (looks rest) h.2)
+    ∙ ap (λ (o : Out). next o (mean (plan_of rest) k)) (wrapped (raw.Start label) content k)
     )
 split k (words s rest) h = ap (λ (o : Out). next (gives (raw.Text s ∷ [])) o) (split k rest h) ∙ sym (mean_then (still (raw.Text s ∷ [])) (plan_of rest) k tt)
 split k (apply rest) h =

@@ -3,3 +3,4 @@ pub mod Choice
 pub mod Run
 pub mod Plan
 pub mod Session
+pub mod Growth

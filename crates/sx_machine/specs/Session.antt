@@ -1,5 +1,7 @@
 -- What a session stands for.
-use Rattle.std.specs.Prelude.{◌≡◌, ℕ, List, map, length}
+use Rattle.std.specs.Prelude.{◌≡◌, ℕ, List, [], ◌∷◌, map, length}
+use Rattle.sx_kinds.specs.declared.sheets.Mode.{Mode}
+use Rattle.sx_kinds.specs.declared.sheets.OnNoMatch.TheVariants as unmatched
 use Rattle.sx_kinds.specs.declared.sheets.Sheet.{Sheet}
 use Rattle.sx_tree.specs.Tree.{Document, tree_of}
 use Rattle.sx_tree.specs.Events.{Element, happenings_of}
@@ -21,8 +23,14 @@ use Rattle.sx_machine.specs.Choice.{chosen_for}
 use Rattle.sx_machine.specs.Run.{Out, Ending, done, waits, stops, meaning, is_done, stated_invocations}
 use Rattle.sx_machine.specs.Plan.{rule_of, task_of, tasks}
 
--- The stylesheet can be streamed, and the names have the numbers of its names.
+-- elements and texts without a template of their own are passed by text-only copy
+abbrev pub text_only : Mode
+text_only = record { name = None; declared = true; streamable = true; no_match = unmatched.TextOnlyCopy }
+
+-- It has the unnamed mode, which is declared and streamable, alone; it can be streamed; and the names have the numbers of
+-- its names.
 pub record IsReady (sheet : Sheet) (names : List (List ℕ × List ℕ)) : Type 0 where
+  pub mode : sheet.modes ≡ text_only ∷ []
   pub streamable : culprit sheet.templates ≡ None
   pub known : AreKnown (length names) sheet.templates
 

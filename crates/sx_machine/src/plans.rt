@@ -105,10 +105,7 @@ fn rule_from(alloc: Global, template: &Template) -> Result<Rule, AllocError>
 }
 
 /// The templates as the session keeps them.
-pub(crate) fn rules_from(
-    alloc: Global,
-    templates: &[Template],
-) -> Result<Items<Rule>, AllocError>
+pub(crate) fn rules_from(alloc: Global, templates: &[Template]) -> Result<Items<Rule>, AllocError>
     ensures { IfOk result (λ rules. rules ≡ map rule_of templates.now) }
 {
     let mut rules = Items::new(alloc);

@@ -136,8 +136,9 @@ fn job_in(frames: &[Frame]) -> Job
 }
 
 impl Session {
+    ghost use Rattle.sx_machine.specs.Growth.{MayCome};
     ghost use Rattle.sx_machine.specs.Session.{IsReady, StandsOn, Stands, built_of, step_of, is_spent};
-    ghost use Rattle.sx_tree.specs.Events.{Element, MayFollow, happening_of, happenings_of};
+    ghost use Rattle.sx_tree.specs.Events.{Element, happening_of, happenings_of};
     ghost use Rattle.sx_tree.specs.Tree.{Document, push, starts, ends, says, instructs, closes, has_open};
 
     /// A session of a stylesheet that was fed nothing.
@@ -158,7 +159,7 @@ impl Session {
     /// goes on to answer that. After an `AllocError` the session is spent: each later call that takes an event answers one.
     pub fn feed(&mut self, e: Event, names: &mut Names) -> Result<Step, AllocError>
         ensures stands { OnOk result ((sheet : Stylesheet) (known : List (List ℕ × List ℕ)) (p : List DocumentEvent) (given : ℕ) → KeepsPlaces known names.old
-            → MayFollow (happenings_of p) (happening_of e) → Stands sheet known self.old p given → Stands sheet known self.new (p ++ e ∷ []) given) }
+            → MayCome (happenings_of p) (happening_of e) → Stands sheet known self.old p given → Stands sheet known self.new (p ++ e ∷ []) given) }
         ensures answer { IfOk result (λ step. step ≡ step_of self.new.state) }
         ensures names { names.new ≡ names.old }
         ensures err { OnErr result (is_spent self.new ≡ true) }
@@ -183,7 +184,7 @@ impl Session {
     /// Is told that the document has ended well: it is fed `Event::Close`.
     pub fn finish(&mut self, names: &mut Names) -> Result<Step, AllocError>
         ensures stands { OnOk result ((sheet : Stylesheet) (known : List (List ℕ × List ℕ)) (p : List DocumentEvent) (given : ℕ) → KeepsPlaces known names.old
-            → MayFollow (happenings_of p) (happening_of event.Close) → Stands sheet known self.old p given → Stands sheet known self.new (p ++ event.Close ∷ []) given) }
+            → MayCome (happenings_of p) (happening_of event.Close) → Stands sheet known self.old p given → Stands sheet known self.new (p ++ event.Close ∷ []) given) }
         ensures answer { IfOk result (λ step. step ≡ step_of self.new.state) }
         ensures names { names.new ≡ names.old }
         ensures err { OnErr result (is_spent self.new ≡ true) }
@@ -225,7 +226,7 @@ impl Session {
     fn take(&mut self, e: Event, names: &Names) -> Result<(), AllocError>
         requires { self.old.state ≡ state.Going }
         ensures stands { OnOk result ((sheet : Stylesheet) (known : List (List ℕ × List ℕ)) (p : List DocumentEvent) (given : ℕ) → KeepsPlaces known names.now
-            → MayFollow (happenings_of p) (happening_of e) → Stands sheet known self.old p given → Stands sheet known self.new (p ++ e ∷ []) given) }
+            → MayCome (happenings_of p) (happening_of e) → Stands sheet known self.old p given → Stands sheet known self.new (p ++ e ∷ []) given) }
         ensures kept { OnOk result (is_spent self.new ≡ false) }
     {
         match e {

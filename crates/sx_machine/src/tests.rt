@@ -133,11 +133,7 @@ fn text(
 }
 
 // What is given when an element ends.
-fn end(
-    alloc: Global,
-    session: &mut Session,
-    names: &mut Names,
-) -> Result<String, AllocError> {
+fn end(alloc: Global, session: &mut Session, names: &mut Names) -> Result<String, AllocError> {
     feed(alloc, session, names, Event::End)
 }
 

@@ -24,9 +24,9 @@ plan_instr-returns-in_ok-plan_instrs-in-Literal t c = on_ok_weaker c.push-in-Lit
     let line : ℕ = (out-Instr c.args.instr.now).construct.line in
     let label : Label = c.in-Literal.label in
     let started : c.push.new.self ≡ then_plan p (still (raw.Start label ∷ [])) =
-        c.in_ok-push-in-Literal.ensures ∙ ap (λ (l : Label). then_plan p (still (raw.Start l ∷ []))) c.in_ok-copy-in-Literal.ensures in
+    c.in_ok-push-in-Literal.ensures ∙ ap (λ (l : Label). then_plan p (still (raw.Start l ∷ []))) c.in_ok-copy-in-Literal.ensures in
     let filled : c.plan_instrs.new.plan ≡ then_plan (then_plan p (still (raw.Start label ∷ []))) (plan_of (body_of content)) =
-        c.in_ok-plan_instrs-in-Literal.ensures ∙ ap₂ (λ (q : Plan) (is : List Instr). then_plan q (plan_of (body_of is))) started c.as_slice.ensures in
+    c.in_ok-plan_instrs-in-Literal.ensures ∙ ap₂ (λ (q : Plan) (is : List Instr). then_plan q (plan_of (body_of is))) started c.as_slice.ensures in
     ap (λ (q : Plan). then_plan q (plan_of rest)) (ended ∙ ap (λ (q : Plan). then_plan q (still (raw.End ∷ []))) filled)
     ∙ literal_in_front p line label (body_of content) rest
     ∙ ap (λ (b : Body). then_plan p (plan_of b)) (sym (front_of c.args.instr.now _ c.in-Literal.is rest ∙ ap (λ (b : Body). literal line label b rest) (joined_is content)))) c.push-in-Literal.ensures

@@ -22,6 +22,6 @@ returns-in-Some-clause-ok c = on_ok_weaker c.write.result (λ wrote sheet known 
     let same = c.behind_in.ensures ∙ ap (λ (rs : List Rule). after_at rs place) c.as_slice.ensures in
     let known_here : HaveNumbers known (after_at rules place) = subst (λ (rs : List Rule). HaveNumbers known (after_at rs place)) (sym s.rules_are) (known_after known sheet.templates place s.ready.known) in
     let built = wrote known (meaning_on sheet d).raw given keeps (subst (HaveNumbers known) (sym same) known_here)
-        (builds_going sheet known c.args.self.now c.args.self.now d given s c.requires) in
+    (builds_going sheet known c.args.self.now c.args.self.now d given s c.requires) in
     end_comes sheet known c.args.self.now _ d given s c.requires o c.in-Some.frame c.in-Some.ensures refl
     (subst (λ (raws : List Raw). Stands c.write.new.builder known ((meaning_on sheet d).raw ++ raws) false given) same built) c.requires) c.write.ensures

@@ -21,7 +21,7 @@ returns-in-None-clause-ok c = on_ok_weaker c.push.result (λ more sheet known d 
     let rules = c.args.self.now.rules in
     let ts = sheet.templates in
     let none : last_that (is_named c.args.number) (map rule_of ts) ≡ None =
-        ap (λ (rs : List Rule). last_that (is_named c.args.number) rs) (sym s.rules_are ∙ sym c.as_slice.ensures) ∙ sym c.in-None.ensures.found in
+    ap (λ (rs : List Rule). last_that (is_named c.args.number) rs) (sym s.rules_are ∙ sym c.as_slice.ensures) ∙ sym c.in-None.ensures.found in
     let planned : plan_of (chosen_for_number ts e.label.number) ≡ looking [] [] = ap (λ (n : ℕ). plan_of (chosen_for_number ts n)) number ∙ not_found ts c.args.number none in
     start_comes sheet known c.args.self.now _ d given s c.requires o e _ c.args.left (looking [] []) j planned refl refl more
     (unchanged sheet known c.args.self.now c.args.self.now d given s c.requires o c.args.self.now.builder c.args.self.now.builder refl
@@ -35,23 +35,23 @@ returns-after-is_some-clause-ok c = on_ok_weaker c.push-in-Some.result (λ more 
     let r : Rule = get_or c.as_slice-in-Some.result.now place c.index-as_slice-place.result in
     let slice_is = c.as_slice-in-Some.ensures in
     let at : slice_get rules place ≡ Some r =
-        subst (λ (rs : List Rule). slice_get rs place ≡ Some r) slice_is
-        (slice_get-get_or c.as_slice-in-Some.result.now place c.index-as_slice-place.result (subst (λ (rs : List Rule). place < length rs) (c.as_slice.ensures ∙ sym slice_is) c.in-Some.ensures.within)) in
+    subst (λ (rs : List Rule). slice_get rs place ≡ Some r) slice_is
+    (slice_get-get_or c.as_slice-in-Some.result.now place c.index-as_slice-place.result (subst (λ (rs : List Rule). place < length rs) (c.as_slice.ensures ∙ sym slice_is) c.in-Some.ensures.within)) in
     let last : last_that (is_named c.args.number) (map rule_of ts) ≡ Some r =
-        ap (λ (rs : List Rule). last_that (is_named c.args.number) rs) (sym s.rules_are ∙ sym c.as_slice.ensures) ∙ sym c.in-Some.ensures.found
-        ∙ ap (λ (rs : List Rule). slice_get rs place) c.as_slice.ensures ∙ at in
+    ap (λ (rs : List Rule). last_that (is_named c.args.number) rs) (sym s.rules_are ∙ sym c.as_slice.ensures) ∙ sym c.in-Some.ensures.found
+    ∙ ap (λ (rs : List Rule). slice_get rs place) c.as_slice.ensures ∙ at in
     let planned : plan_of (chosen_for_number ts e.label.number) ≡ r.plan = ap (λ (n : ℕ). plan_of (chosen_for_number ts n)) number ∙ found ts c.args.number r last in
     let before_is = c.as_slice-in-Some-2.ensures in
     let numbers : HaveNumbers known r.plan.before = subst (λ (p : Plan). HaveNumbers known p.before) planned (known_chosen_plan known _ ts s.ready.known).0 in
     let wrote = c.in_ok-write-in-Some.ensures known (meaning_on sheet d).raw given keeps (subst (HaveNumbers known) (sym before_is) numbers)
-        (builds_going sheet known c.args.self.now c.args.self.now d given s c.requires) in
+    (builds_going sheet known c.args.self.now c.args.self.now d given s c.requires) in
     let job_is : c.if-is_some.job ≡ job_for c.args.left r.plan.behind =
-        elim c.if-is_some.branch [
-          | then-is_some w ↦ job_from c.args.left r.plan.behind c.is_some.result c.if-is_some.job c.is_some.ensures (λ t. w.job-is) (λ f. absurd (cc))
-          | else-is_some w ↦ job_from c.args.left r.plan.behind c.is_some.result c.if-is_some.job c.is_some.ensures (λ t. absurd (cc)) (λ f. w.job-is)
-        ] in
+    elim c.if-is_some.branch [
+      | then-is_some w ↦ job_from c.args.left r.plan.behind c.is_some.result c.if-is_some.job c.is_some.ensures (λ t. w.job-is) (λ f. absurd (cc))
+      | else-is_some w ↦ job_from c.args.left r.plan.behind c.is_some.result c.if-is_some.job c.is_some.ensures (λ t. absurd (cc)) (λ f. w.job-is)
+    ] in
     let task : task_of rules (record { job = c.if-is_some.job; rule = Some place }) ≡ task_for c.args.left r.plan =
-        ap (λ (i : Job). let t : Task = record { job = i; after = after_rule (slice_get rules place) } in t) job_is
-        ∙ ap (λ (o : Option Rule). let t : Task = record { job = job_for c.args.left r.plan.behind; after = after_rule o } in t) at in
+    ap (λ (i : Job). let t : Task = record { job = i; after = after_rule (slice_get rules place) } in t) job_is
+    ∙ ap (λ (o : Option Rule). let t : Task = record { job = job_for c.args.left r.plan.behind; after = after_rule o } in t) at in
     start_comes sheet known c.args.self.now _ d given s c.requires o e _ c.args.left r.plan j planned task refl more
     (subst (λ (raws : List Raw). Stands c.write.new.builder known ((meaning_on sheet d).raw ++ raws) false given) before_is wrote) c.requires) c.push-in-Some.ensures.ok

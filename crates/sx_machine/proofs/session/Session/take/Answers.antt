@@ -1,7 +1,8 @@
 use Rattle.std.proofs.Common.{◌≡◌, ap, refl, subst}
 use Rattle.std.proofs.lemmas.Result.{on_ok_weaker}
-use Rattle.sx_tree.specs.Events.{Element, happening_of, happenings_of, MayFollow}
+use Rattle.sx_tree.specs.Events.{Element, happening_of, happenings_of}
 use Rattle.sx_tree.specs.Tree.{Happening, tree_of, starts, ends, says, instructs, closes}
+use Rattle.sx_machine.specs.Growth.{MayCome}
 use Rattle.sx_machine.proofs.Events.{stands_more}
 use Rattle.sx_machine.proofs.session.Session.take.Goals as goal
 
@@ -28,6 +29,6 @@ returns-in-Pi-clause-stands c = λ sheet known p given keeps follows s.
 
 pub returns-clause-stands : goal.returns-clause-stands
 returns-clause-stands c = λ sheet known p given keeps follows s.
-    let at : MayFollow (happenings_of p) closes = subst (λ (h : Happening Element). MayFollow (happenings_of p) h) (ap happening_of c.in-Close.is) follows in
+    let at : MayCome (happenings_of p) closes = subst (λ (h : Happening Element). MayCome (happenings_of p) h) (ap happening_of c.in-Close.is) follows in
     stands_more sheet known _ p c.args.e closes given (ap happening_of c.in-Close.is)
-    (c.close.ensures.stands sheet known (tree_of (happenings_of p)) given at.not_closed at.allowed s)
+    (c.close.ensures.stands sheet known (tree_of (happenings_of p)) given at.not_closed at.whole s)
