@@ -2,6 +2,7 @@ pub mod Outs
 pub mod Bodies
 pub mod Splits
 pub mod Steps
+pub mod Growths
 pub mod Tasks
 pub mod Machine
 pub mod Rules

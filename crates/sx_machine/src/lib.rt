@@ -6,6 +6,9 @@ mod session;
 #[cfg(test)]
 mod tests;
 
+/// Laws over the definitions, each the contract of a function that does nothing.
+pub mod laws;
+
 // A contract of another crate can speak of `Session` only if the types of its fields are exported.
 #[doc(hidden)]
 pub use plans::{Plan, Rule};
