@@ -1,6 +1,6 @@
 -- More of a document only adds to what was given.
 use Rattle.std.proofs.Common.{◌≡◌, ℕ, suc, Bool, true, false, List, [], ◌∷◌, ◌++◌, refl, ap, sym, ◌∙◌, subst, append_assoc, append-nil}
-use Rattle.sx_tree.specs.Tree.{Document, Forest, Happening, starts, ends, says, instructs, closes, push, tree_of}
+use Rattle.sx_tree.specs.Tree.{Document, Happening, starts, ends, says, instructs, closes, push, tree_of}
 use Rattle.sx_tree.proofs.Open.{tree_of-snoc}
 use Rattle.sx_lines.specs.declared.events.Built.{Built}
 use Rattle.sx_build.specs.declared.raw.Raw.{Raw}

@@ -1,5 +1,5 @@
 -- The session after one happening more.
-use Rattle.std.proofs.Common.{◌≡◌, ℕ, zero, suc, Bool, true, false, cond, List, [], ◌∷◌, ◌++◌, refl, ap, ap₂, sym, ◌∙◌, subst, append_assoc, append-nil, map}
+use Rattle.std.proofs.Common.{◌≡◌, ℕ, Bool, true, false, List, [], ◌++◌, refl, ap, sym, ◌∙◌, subst, append-nil, map}
 use Rattle.sx_atoms.specs.declared.error_codes.Code.{Code}
 use Rattle.sx_kinds.specs.declared.sheets.Sheet.{Sheet}
 use Rattle.sx_tree.specs.Events.{Element}
@@ -7,15 +7,14 @@ use Rattle.sx_tree.specs.Tree.{Document, Forest, Happening, starts, ends, says, 
 use Rattle.sx_build.specs.declared.raw.Raw.{Raw}
 use Rattle.sx_build.specs.Builder as builder
 use Rattle.sx_machine.specs.declared.session.Session.{Session}
-use Rattle.sx_machine.specs.declared.session.State.{State}
 use Rattle.sx_machine.specs.declared.session.State.TheVariants as state
 use Rattle.sx_machine.specs.Body.{Body}
-use Rattle.sx_machine.specs.Choice.{chosen_for, chosen_by}
-use Rattle.sx_machine.specs.Run.{Out, Ending, done, waits, stops, gives, meaning, applied, is_done}
+use Rattle.sx_machine.specs.Choice.{chosen_for}
+use Rattle.sx_machine.specs.Run.{Out, Ending, done, waits, stops, gives, applied, is_done}
 use Rattle.sx_machine.specs.Plan.{Task, tasks, reacts, task_of}
 use Rattle.sx_machine.specs.Growth.{ClosesWhole}
 use Rattle.sx_machine.specs.Session.{IsReady, StandsOn, meaning_on, state_of, root}
-use Rattle.sx_machine.proofs.Outs.{IsGoing, GoingAt, out, resume, resumed, resume_waits, resume_stops}
+use Rattle.sx_machine.proofs.Outs.{IsGoing, GoingAt, out, resume, resume_waits, resume_stops}
 use Rattle.sx_machine.proofs.Bodies.{IsGood, good_chosen}
 use Rattle.sx_machine.proofs.Steps.{GoesOn, pushed, step, going, closed, reacts_going}
 

@@ -1,11 +1,11 @@
 -- What each event does to a session that goes on.
-use Rattle.std.proofs.Common.{◌≡◌, ◌≢◌, ℕ, zero, suc, ◌<◌, ◌-◌, arith, Bool, true, false, List, [], ◌∷◌, ◌++◌, Option, Some, None, map, length, refl, ap, ap₂, sym, ◌∙◌, subst, append-nil, append_assoc, is_some}
+use Rattle.std.proofs.Common.{◌≡◌, ◌≢◌, ℕ, suc, ◌-◌, arith, Bool, true, false, List, [], ◌∷◌, ◌++◌, Option, Some, None, map, ap, ap₂, sym, ◌∙◌, subst, append-nil, is_some}
 use Rattle.std.proofs.lemmas.List.{map-append}
 use Rattle.sx_atoms.specs.declared.error_codes.Code.{Code}
 use Rattle.sx_atoms.specs.declared.error_codes.Code.TheVariants as error
 use Rattle.sx_kinds.specs.declared.sheets.Sheet.{Sheet}
 use Rattle.sx_tree.specs.Events.{Element}
-use Rattle.sx_tree.specs.Tree.{Document, Happening, starts, ends, says, instructs, closes, push, push_node, begun}
+use Rattle.sx_tree.specs.Tree.{Document, Happening, starts, ends, says, instructs, push, push_node, begun}
 use Rattle.sx_build.specs.declared.builder.Builder.{Builder}
 use Rattle.sx_build.specs.declared.raw.Raw.{Raw}
 use Rattle.sx_build.specs.declared.raw.Raw.TheVariants as raw
@@ -16,14 +16,13 @@ use Rattle.sx_machine.specs.declared.session.Frame.{Frame}
 use Rattle.sx_machine.specs.declared.session.Job.{Job}
 use Rattle.sx_machine.specs.declared.session.Job.TheVariants as job
 use Rattle.sx_machine.specs.declared.session.Session.{Session}
-use Rattle.sx_machine.specs.declared.session.State.{State}
 use Rattle.sx_machine.specs.declared.session.State.TheVariants as state
 use Rattle.sx_machine.specs.Body.{Body}
 use Rattle.sx_machine.specs.Choice.{chosen_for}
-use Rattle.sx_machine.specs.Run.{Out, nothing, waits, stops, gives, next, too_deep}
-use Rattle.sx_machine.specs.Plan.{Task, tasks, task_of, reacts, entered, first, closing, last_job, ending_of, saying, instructing, plan_of, job_for, after_of, task_for, idle, looking}
-use Rattle.sx_machine.specs.Session.{StandsOn, meaning_on, state_of, root}
-use Rattle.sx_machine.proofs.Outs.{waiting, out}
+use Rattle.sx_machine.specs.Run.{gives, next, too_deep}
+use Rattle.sx_machine.specs.Plan.{Task, tasks, task_of, reacts, entered, first, last_job, ending_of, saying, instructing, plan_of, job_for, task_for, idle}
+use Rattle.sx_machine.specs.Session.{StandsOn, meaning_on, root}
+use Rattle.sx_machine.proofs.Outs.{waiting}
 use Rattle.sx_machine.proofs.Steps.{GoesOn, pushed}
 use Rattle.sx_machine.proofs.Tasks.{ending-snoc, tasks_start, tasks_text, tasks_instruction, tasks_end, tasks_end_none}
 use Rattle.sx_machine.proofs.Machine.{stands_next, builds_going}

@@ -1,5 +1,5 @@
 -- What is given in turn, with its ends.
-use Rattle.std.proofs.Common.{◌≡◌, ℕ, List, [], ◌∷◌, ◌++◌, refl, ap, sym, ◌∙◌, append_assoc, append-nil}
+use Rattle.std.proofs.Common.{◌≡◌, List, [], ◌++◌, refl, ap, sym, ◌∙◌, append_assoc, append-nil}
 use Rattle.sx_atoms.specs.declared.error_codes.Code.{Code}
 use Rattle.sx_build.specs.declared.raw.Raw.{Raw}
 use Rattle.sx_machine.specs.Run.{Out, Ending, done, waits, stops, nothing, gives, behind, next}

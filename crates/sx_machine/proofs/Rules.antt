@@ -1,5 +1,5 @@
 -- The rules of templates: which is found for a name, and that the names in them have numbers.
-use Rattle.std.proofs.Common.{◌≡◌, ℕ, zero, suc, ◌<◌, ◌≤◌, ◌+◌, ◌-◌, ◌==◌, nat_eq, Bool, true, false, cond, List, [], ◌∷◌, ◌++◌, length, drop, map, Option, Some, None, slice_get, get_or, is_some, refl, ap, ap₂, sym, ◌∙◌, add-one, drop-cons, take, arith, append_assoc}
+use Rattle.std.proofs.Common.{◌≡◌, ℕ, zero, suc, ◌<◌, ◌≤◌, ◌+◌, ◌-◌, nat_eq, Bool, true, false, cond, List, [], ◌∷◌, ◌++◌, length, drop, map, Option, Some, None, slice_get, get_or, refl, ap, ap₂, sym, ◌∙◌, add-one, drop-cons, take, arith, append_assoc}
 use Rattle.std.proofs.Math.Seq.{take-suc}
 use Rattle.std.proofs.lemmas.Option.{slice_get-get_or}
 use Rattle.std.proofs.lemmas.Bool.Decides.{nat_tests}
@@ -14,10 +14,10 @@ use Rattle.sx_build.specs.declared.raw.Raw.TheVariants as raw
 use Rattle.sx_build.specs.Build.{HaveNumbers, HasNumber}
 use Rattle.sx_machine.specs.declared.plans.Plan.{Plan}
 use Rattle.sx_machine.specs.declared.plans.Rule.{Rule}
-use Rattle.sx_machine.specs.Body.{Body, nil, literal, words, apply, body_of, in_front, instr_in_front, layer, joined, IsKnownBody, IsKnownPattern, AreKnown}
+use Rattle.sx_machine.specs.Body.{Body, nil, literal, words, apply, body_of, in_front, instr_in_front, layer, joined, IsKnownBody, AreKnown}
 use Rattle.sx_machine.specs.Choice.{otherwise, last_that, pattern_passes, body_or_built_in, chosen_by, chosen_for_number}
 use Rattle.sx_machine.specs.Plan.{still, looking, then_at, then_plan, plan_of, pattern_name, rule_of, after_of, after_rule, after_at}
-use Rattle.sx_machine.specs.Session.{rule_at, is_number, is_named}
+use Rattle.sx_machine.specs.Session.{is_number, is_named}
 
 -- ---- bodies by their instructions
 

@@ -1,14 +1,12 @@
 -- One happening more, on the open tree and in the tasks of the open elements.
-use Rattle.std.proofs.Common.{◌≡◌, ℕ, zero, suc, Bool, true, false, cond, List, [], ◌∷◌, ◌++◌, Option, Some, None, refl, ap, sym, ◌∙◌, subst}
+use Rattle.std.proofs.Common.{◌≡◌, ℕ, zero, suc, Bool, true, false, cond, List, [], ◌∷◌, Option, Some, None, refl, ap, sym, ◌∙◌, subst}
 use Rattle.sx_tree.specs.Tree.{Happening, starts, ends, says, instructs, closes, Forest, none, text, instruction, element, has_open, begun, push_node, push_end}
 use Rattle.sx_build.specs.declared.raw.Raw.{Raw}
-use Rattle.sx_build.specs.declared.raw.Raw.TheVariants as raw
 use Rattle.sx_machine.specs.declared.session.Job.{Job}
 use Rattle.sx_machine.specs.declared.session.Job.TheVariants as job
-use Rattle.sx_machine.specs.declared.plans.Plan.{Plan}
 use Rattle.sx_machine.specs.Body.{Body}
-use Rattle.sx_machine.specs.Run.{Out, nothing, waits, gives, next, invoked, applied, element_node, text_node, instruction_node}
-use Rattle.sx_machine.specs.Plan.{Task, plan_of, job_for, after_of, task_for, idle, content, entered, first, tasks, reacts, closing, last_closing, last_job, ending_of, saying, instructing}
+use Rattle.sx_machine.specs.Run.{Out, gives, next, invoked, applied, element_node, text_node, instruction_node}
+use Rattle.sx_machine.specs.Plan.{Task, plan_of, job_for, after_of, content, entered, first, tasks, reacts, closing, last_closing, last_job, ending_of, saying, instructing}
 use Rattle.sx_machine.proofs.Outs.{waiting, resume, IsGoing, IsSettled, next-assoc, going-next, next_going, next_settled, resume_going, resume_behind, end_here, next-nil}
 use Rattle.sx_machine.proofs.Bodies.{IsGood}
 use Rattle.sx_machine.proofs.Splits.{mean, split}

@@ -5,7 +5,6 @@ use Rattle.sx_machine.specs.declared.plans.Rule.{Rule}
 use Rattle.sx_machine.specs.declared.session.Frame.{Frame}
 use Rattle.sx_machine.specs.declared.session.Job.{Job}
 use Rattle.sx_machine.specs.Body.{Body}
-use Rattle.sx_machine.specs.Run.{Out}
 use Rattle.sx_machine.specs.Plan.{Task, entered, tasks, closing, last_closing, last_job, ending_of, task_of}
 
 -- all but the last

@@ -1,5 +1,5 @@
 -- The content of templates, as definitions recurse on it, and what keeps a stylesheet from being streamed.
-use Rattle.std.specs.Prelude.{ℕ, ◌+◌, ◌<◌, nat_lt, Bool, true, false, ◌||◌, List, [], ◌∷◌, length, map, Option, Some, None, if◌then◌else◌}
+use Rattle.std.specs.Prelude.{ℕ, ◌+◌, ◌<◌, nat_lt, Bool, true, false, ◌||◌, List, [], ◌∷◌, Option, Some, None, if◌then◌else◌}
 use Rattle.sx_tree.specs.declared.events.Label.{Label}
 use Rattle.sx_kinds.specs.declared.constructs.InstrForm.{InstrForm}
 use Rattle.sx_kinds.specs.declared.constructs.InstrForm.TheVariants as form

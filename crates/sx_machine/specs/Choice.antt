@@ -1,5 +1,5 @@
 -- Which template is chosen for an element (XSLT 3.0, 6.4 and 6.5).
-use Rattle.std.specs.Prelude.{ℕ, ◌==◌, Bool, true, false, ◌&&◌, nat_eq, bytes_eq, List, [], ◌∷◌, length, Option, Some, None, slice_get, if◌then◌else◌}
+use Rattle.std.specs.Prelude.{ℕ, Bool, true, false, ◌&&◌, nat_eq, bytes_eq, List, [], ◌∷◌, Option, Some, None, slice_get, if◌then◌else◌}
 use Rattle.sx_tree.specs.Events.{Element}
 use Rattle.sx_kinds.specs.declared.constructs.Pattern.{Pattern}
 use Rattle.sx_kinds.specs.declared.sheets.Template.{Template}

@@ -1,5 +1,5 @@
 -- More of a document only adds to what was given.
-use Rattle.std.specs.Prelude.{◌≡◌, Bool, true, false, List, [], ◌∷◌, ◌++◌}
+use Rattle.std.specs.Prelude.{◌≡◌, true, false, List, [], ◌∷◌, ◌++◌}
 use Rattle.sx_tree.specs.Tree.{Document, Happening, starts, ends, says, instructs, closes, has_open, tree_of}
 use Rattle.sx_build.specs.declared.raw.Raw.{Raw}
 use Rattle.sx_machine.specs.Run.{Out, Ending, done, waits, stops}

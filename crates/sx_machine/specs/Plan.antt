@@ -1,5 +1,5 @@
 -- How a body is run while the children come: what it gives before them, whether it asks for them, and what it gives behind.
-use Rattle.std.specs.Prelude.{ℕ, zero, suc, Bool, true, false, List, [], ◌∷◌, ◌++◌, Option, Some, None, unwrap_or, slice_get}
+use Rattle.std.specs.Prelude.{ℕ, zero, suc, Bool, true, false, List, [], ◌∷◌, ◌++◌, Option, Some, None, slice_get}
 use Rattle.sx_tree.specs.Tree.{Happening, starts, ends, says, instructs, closes, Forest, none, text, instruction, element}
 use Rattle.sx_build.specs.declared.raw.Raw.{Raw}
 use Rattle.sx_build.specs.declared.raw.Raw.TheVariants as raw
@@ -11,7 +11,7 @@ use Rattle.sx_machine.specs.declared.session.Frame.{Frame}
 use Rattle.sx_machine.specs.declared.session.Job.{Job}
 use Rattle.sx_machine.specs.declared.session.Job.TheVariants as job
 use Rattle.sx_machine.specs.Body.{Body, nil, literal, words, apply, body_of}
-use Rattle.sx_machine.specs.Run.{Out, Ending, done, waits, stops, nothing, gives, next, too_deep, applied}
+use Rattle.sx_machine.specs.Run.{Out, waits, nothing, gives, next, too_deep, applied}
 
 -- ---- plans
 

@@ -1,10 +1,9 @@
-use Rattle.std.proofs.Common.{◌≡◌, ℕ, List, [], ◌∷◌, map, refl, ap, ap₂, sym, ◌∙◌}
+use Rattle.std.proofs.Common.{◌≡◌, ℕ, List, [], ◌∷◌, map, ap, ap₂, sym, ◌∙◌}
 use Rattle.std.proofs.lemmas.Result.{on_ok_weaker}
 use Rattle.sx_tree.specs.declared.events.Label.{Label}
 use Rattle.sx_kinds.specs.declared.constructs.Instr.{Instr}
 use Rattle.sx_kinds.specs.declared.constructs.Instr.TheViews.{out-Instr}
 use Rattle.sx_kinds.specs.declared.constructs.InstrForm.{InstrForm}
-use Rattle.sx_build.specs.declared.raw.Raw.{Raw}
 use Rattle.sx_build.specs.declared.raw.Raw.TheVariants as raw
 use Rattle.sx_machine.specs.declared.plans.Plan.{Plan}
 use Rattle.sx_machine.specs.Body.{Body, literal, body_of, in_front, instr_in_front}

@@ -1,7 +1,6 @@
-use Rattle.std.proofs.Common.{◌≡◌, ◌+◌, ◌++◌, ◌∷◌, [], List, ℕ, Bool, false, take, length, get_or, sym, ap, ◌∙◌, subst, add-one, append_assoc}
-use Rattle.std.proofs.Math.Seq.{take-suc}
+use Rattle.std.proofs.Common.{◌≡◌, ◌++◌, ◌∷◌, [], List, false, take, sym, ap, ◌∙◌, subst}
 use Rattle.sx_build.specs.declared.raw.Raw.{Raw}
-use Rattle.sx_build.specs.Build.{HaveNumbers, HasNumber}
+use Rattle.sx_build.specs.Build.{HasNumber}
 use Rattle.sx_build.specs.Builder.{Stands}
 use Rattle.sx_machine.proofs.Rules.{number_at, one_more}
 use Rattle.sx_machine.proofs.session.write.Goals as goal

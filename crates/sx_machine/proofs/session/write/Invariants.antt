@@ -1,4 +1,4 @@
-use Rattle.std.proofs.Common.{◌≡◌, ◌++◌, take, List, ℕ, false}
+use Rattle.std.proofs.Common.{◌++◌, take, List, ℕ, false}
 use Rattle.sx_build.specs.declared.raw.Raw.{Raw}
 use Rattle.sx_build.specs.Build.{HaveNumbers}
 use Rattle.sx_build.specs.Builder.{Stands}

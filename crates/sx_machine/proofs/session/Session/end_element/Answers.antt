@@ -1,4 +1,4 @@
-use Rattle.std.proofs.Common.{◌≡◌, ◌++◌, ℕ, false, List, map, refl, ap, sym, ◌∙◌, subst}
+use Rattle.std.proofs.Common.{◌++◌, false, List, refl, ap, sym, ◌∙◌, subst}
 use Rattle.std.proofs.lemmas.Result.{on_ok_weaker}
 use Rattle.sx_build.specs.declared.raw.Raw.{Raw}
 use Rattle.sx_build.specs.Build.{HaveNumbers}

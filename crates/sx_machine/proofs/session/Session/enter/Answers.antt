@@ -1,4 +1,4 @@
-use Rattle.std.proofs.Common.{◌≡◌, ℕ, ◌<◌, Bool, true, false, List, [], ◌++◌, Option, Some, None, map, length, slice_get, get_or, is_some, refl, ap, sym, ◌∙◌, subst}
+use Rattle.std.proofs.Common.{◌≡◌, ℕ, ◌<◌, false, List, [], ◌++◌, Option, Some, None, map, length, slice_get, get_or, refl, ap, sym, ◌∙◌, subst}
 use Rattle.std.proofs.lemmas.Option.{slice_get-get_or}
 use Rattle.std.proofs.lemmas.Result.{on_ok_weaker}
 use Rattle.sx_build.specs.declared.raw.Raw.{Raw}
@@ -8,7 +8,7 @@ use Rattle.sx_machine.specs.declared.plans.Plan.{Plan}
 use Rattle.sx_machine.specs.declared.plans.Rule.{Rule}
 use Rattle.sx_machine.specs.declared.session.Job.{Job}
 use Rattle.sx_machine.specs.Choice.{last_that, chosen_for_number}
-use Rattle.sx_machine.specs.Plan.{Task, plan_of, looking, rule_of, task_of, task_for, after_of, after_rule, job_for}
+use Rattle.sx_machine.specs.Plan.{Task, plan_of, looking, rule_of, task_of, task_for, after_rule, job_for}
 use Rattle.sx_machine.specs.Session.{meaning_on, is_named}
 use Rattle.sx_machine.proofs.Machine.{builds_going}
 use Rattle.sx_machine.proofs.Moves.{start_comes, unchanged, job_from}

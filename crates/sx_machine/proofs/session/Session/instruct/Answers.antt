@@ -1,7 +1,7 @@
-use Rattle.std.proofs.Common.{◌≡◌, ℕ, List, map, refl, ap, sym, ◌∙◌}
+use Rattle.std.proofs.Common.{List, map, refl, ap, sym, ◌∙◌}
 use Rattle.sx_machine.specs.declared.session.Frame.{Frame}
 use Rattle.sx_machine.specs.declared.session.Job.TheVariants as job
-use Rattle.sx_machine.specs.Plan.{instructing, last_job, task_of}
+use Rattle.sx_machine.specs.Plan.{last_job, task_of}
 use Rattle.sx_machine.specs.Session.{root}
 use Rattle.sx_machine.proofs.Moves.{instruction_quiet, instruction_deep, left_is}
 use Rattle.sx_machine.proofs.session.Session.instruct.Goals as goal

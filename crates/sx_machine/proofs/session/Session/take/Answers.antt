@@ -1,4 +1,4 @@
-use Rattle.std.proofs.Common.{◌≡◌, ap, refl, subst}
+use Rattle.std.proofs.Common.{ap, refl, subst}
 use Rattle.std.proofs.lemmas.Result.{on_ok_weaker}
 use Rattle.sx_tree.specs.Events.{Element, happening_of, happenings_of}
 use Rattle.sx_tree.specs.Tree.{Happening, tree_of, starts, ends, says, instructs, closes}
