@@ -3,6 +3,7 @@ pub mod Bodies
 pub mod Splits
 pub mod Steps
 pub mod Growths
+pub mod Alike
 pub mod Tasks
 pub mod Machine
 pub mod Rules
