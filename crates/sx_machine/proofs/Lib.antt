@@ -4,6 +4,7 @@ pub mod Splits
 pub mod Steps
 pub mod Growths
 pub mod Alike
+pub mod Numbers
 pub mod Tasks
 pub mod Machine
 pub mod Rules
