@@ -7,7 +7,7 @@ use Rattle.sx_esis.specs.Stands as reader
 use Rattle.sx_esis.specs.declared.reader.LineReader.{LineReader}
 use Rattle.sx_esis.proofs.Grow.{reading_grows}
 use Rattle.sx_top.specs.Form.{happenings, document_of, is_whole, all_fit, course_of, without_last_text}
-use Rattle.sx_top.specs.Copy.{print, without_last_start, ends_in_text, ending, stated}
+use Rattle.sx_top.specs.Copy.{refused_document, print, without_last_start, ends_in_text, ending, stated}
 use Rattle.sx_top.specs.Copier.{Nested, Printed, Going, Stands, copy_of}
 use Rattle.sx_top.specs.Taking.{Taking, TookAll, Broke}
 use Rattle.sx_top.specs.declared.copier.Copier.{Copier}
@@ -68,24 +68,24 @@ settled : (c : Copier) (o : Outcome) (b w : List ℕ) → c.outcome ≡ Some o �
 settled c o b w some none = absurd (cc)
 
 -- a line was at fault or did not fit
-pub stands_broken : (c : Copier) (b w : List ℕ) (ended : Bool) → c.outcome ≡ Some outcomes.Refused → length b ≤ 2 ^ 40 → Broke 1048576 b ended c.printer w → Stands c b ended w
+pub stands_broken : (c : Copier) (b w : List ℕ) (ended : Bool) → c.outcome ≡ Some refused_document → length b ≤ 2 ^ 40 → Broke 1048576 b ended c.printer w → Stands c b ended w
 stands_broken c b w ended refused le broke =
     let course = broken_course stated b ended le broke.cause in
     record {
       written = broke.due ∙ ap (λ (ls : List Line). print false (without_last_start (copy_of (happenings ls)))) (sym course.1) ∙ sym (written_broken (course_of stated b ended) ended course.0);
       outcome = refused ∙ sym (outcome_broken (course_of stated b ended) ended course.0);
-      going = settled c outcomes.Refused b w refused;
+      going = settled c refused_document b w refused;
     }
 
 -- the document has passed its limit
-pub stands_beyond : (c0 c : Copier) (b d w : List ℕ) → c.outcome ≡ Some outcomes.Refused → Going c0 b w → length b ≡ 2 ^ 40 → 2 ^ 40 < length (b ++ d) →
+pub stands_beyond : (c0 c : Copier) (b d w : List ℕ) → c.outcome ≡ Some refused_document → Going c0 b w → length b ≡ 2 ^ 40 → 2 ^ 40 < length (b ++ d) →
     w ++ c.printer.due.items ≡ print false (without_last_start (copy_of (happenings (lines_of 1048576 b false).lines))) → Stands c (b ++ d) false w
 stands_beyond c0 c b d w refused going at lt due =
     let course = limit_course stated b d at lt (going.fit, going.sound) in
     record {
       written = due ∙ ap (λ (ls : List Line). print false (without_last_start (copy_of (happenings ls)))) (sym course.1) ∙ sym (written_broken (course_of stated (b ++ d) false) false course.0);
       outcome = refused ∙ sym (outcome_broken (course_of stated (b ++ d) false) false course.0);
-      going = settled c outcomes.Refused (b ++ d) w refused;
+      going = settled c refused_document (b ++ d) w refused;
     }
 
 -- the input has ended with a whole document
@@ -102,7 +102,7 @@ stands_whole c b w r n p done le took whole due =
     }
 
 -- the input has ended in the middle of a document
-pub stands_cut_short : (c : Copier) (b w : List ℕ) (r : LineReader) (n : Nesting) (p : Printer) → c.outcome ≡ Some outcomes.Refused → length b ≤ 2 ^ 40 → TookAll 1048576 b true r n p w →
+pub stands_cut_short : (c : Copier) (b w : List ℕ) (r : LineReader) (n : Nesting) (p : Printer) → c.outcome ≡ Some refused_document → length b ≤ 2 ^ 40 → TookAll 1048576 b true r n p w →
     is_whole (document_of (lines_of 1048576 b true).lines) ≡ false →
     w ++ c.printer.due.items ≡ print false (without_last_start (copy_of (happenings (lines_of 1048576 b true).lines))) → Stands c b true w
 stands_cut_short c b w r n p refused le took partial due =
@@ -111,7 +111,7 @@ stands_cut_short c b w r n p refused le took partial due =
     record {
       written = due ∙ ap (λ (ls : List Line). print false (without_last_start (copy_of (happenings ls)))) (sym course.1) ∙ sym (written_broken (course_of stated b true) true broken);
       outcome = refused ∙ sym (outcome_broken (course_of stated b true) true broken);
-      going = settled c outcomes.Refused b w refused;
+      going = settled c refused_document b w refused;
     }
 
 is_one : {A : Type 0} (o : Option A) → is_some o ≡ true → (x : A) × (o ≡ Some x)

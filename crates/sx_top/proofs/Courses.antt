@@ -7,7 +7,7 @@ use Rattle.sx_esis.specs.Lines.{Line, starts, ends, says, conforms}
 use Rattle.sx_tree.specs.Tree.{Happening, Document, closes, tree_of, push_all, empty_document, has_open}
 use Rattle.sx_tree.specs.Tree as tree
 use Rattle.sx_top.specs.Form.{Course, happening, happenings, document_of, fits, fitting, all_fit, events_in, without_last_text}
-use Rattle.sx_top.specs.Copy.{Built, copied, print, without_last_start, ends_in_text, ending, written_for_document}
+use Rattle.sx_top.specs.Copy.{refused_document, Built, copied, print, without_last_start, ends_in_text, ending, written_for_document}
 use Rattle.sx_top.specs.Copier.{copy_of}
 use Rattle.sx_top.specs.declared.consumer.Outcome.{Outcome}
 use Rattle.sx_top.specs.declared.consumer.Outcome.TheVariants as outcomes
@@ -124,19 +124,19 @@ written_done c h =
 
 -- where a course ends
 abbrev pub course_outcome : Course → Bool → Option Outcome
-course_outcome c ended = cond c.broken (Some outcomes.Refused) (cond (tree_of (events_in c ended)).is_open None (Some outcomes.Done))
+course_outcome c ended = cond c.broken (Some refused_document) (cond (tree_of (events_in c ended)).is_open None (Some outcomes.Done))
 
-pub outcome_broken : (c : Course) (ended : Bool) → c.broken ≡ true → course_outcome c ended ≡ Some outcomes.Refused
-outcome_broken c ended h = ap (λ (v : Bool). cond v (Some outcomes.Refused) (cond (tree_of (events_in c ended)).is_open None (Some outcomes.Done))) h
+pub outcome_broken : (c : Course) (ended : Bool) → c.broken ≡ true → course_outcome c ended ≡ Some refused_document
+outcome_broken c ended h = ap (λ (v : Bool). cond v (Some refused_document) (cond (tree_of (events_in c ended)).is_open None (Some outcomes.Done))) h
 
 pub outcome_going : (c : Course) → c.broken ≡ false → course_outcome c false ≡ None
 outcome_going c h =
-    ap (λ (v : Bool). cond v (Some outcomes.Refused) (cond (tree_of (cond v (happenings c.lines) (without_last_text (happenings c.lines)))).is_open None (Some outcomes.Done))) h
+    ap (λ (v : Bool). cond v (Some refused_document) (cond (tree_of (cond v (happenings c.lines) (without_last_text (happenings c.lines)))).is_open None (Some outcomes.Done))) h
     ∙ ap (λ (o : Bool). cond o None (Some outcomes.Done)) (open_without_text c.lines)
 
 pub outcome_done : (c : Course) → c.broken ≡ false → course_outcome c true ≡ Some outcomes.Done
 outcome_done c h =
-    ap (λ (v : Bool). cond v (Some outcomes.Refused) (cond (tree_of (cond v (happenings c.lines) (happenings c.lines ++ closes ∷ []))).is_open None (Some outcomes.Done))) h
+    ap (λ (v : Bool). cond v (Some refused_document) (cond (tree_of (cond v (happenings c.lines) (happenings c.lines ++ closes ∷ []))).is_open None (Some outcomes.Done))) h
     ∙ ap (λ (d : Document (List ℕ)). cond d.is_open None (Some outcomes.Done)) (tree_of-snoc (happenings c.lines) closes)
 
 -- what may come for a course does so

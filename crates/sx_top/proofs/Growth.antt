@@ -1,14 +1,15 @@
 -- More bytes only add to a copy, and what a course is where the lines of its bytes are known.
-use Rattle.std.proofs.Common.{◌≡◌, ◌≢◌, ◌⊎◌, inl, inr, ℕ, ◌+◌, ◌-◌, ◌<◌, ◌≤◌, Bool, true, false, not, ◌&&◌, List, [], ◌++◌, length, take, Option, Some, None, is_some, refl, ap, ap₂, sym, ◌∙◌, arith, append-nil, length-append, ltb}
+use Rattle.std.proofs.Common.{◌≡◌, ◌≢◌, ◌⊎◌, inl, inr, ℕ, ◌+◌, ◌-◌, ◌<◌, ◌≤◌, Bool, true, false, not, ◌&&◌, List, [], ◌++◌, length, take, Option, Some, None, is_some, refl, ap, ap₂, sym, ◌∙◌, subst, arith, append-nil, length-append, ltb}
 use Rattle.std.proofs.Math.Seq.{take-append-add}
 use Rattle.std.proofs.lemmas.Bool.{false≢true, ltb-true, ltb-false, le-ltb, lt-ltb}
 use Rattle.std.proofs.lemmas.List.{take_all, take-append-le}
 use Rattle.sx_esis.specs.Lines.{Line, Reading, lines_of}
 use Rattle.sx_esis.proofs.Grow.{reading_grows, fault_stays}
 use Rattle.sx_top.specs.Form.{Limits, happenings, document_of, is_whole, fitting, all_fit, lines_within, course_of}
-use Rattle.sx_top.specs.Copy.{copy_written, copy_outcome, print, without_last_start}
-use Rattle.sx_top.specs.Copier.{copy_of}
-use Rattle.sx_top.specs.Headline.{Grows}
+use Rattle.sx_top.specs.Copy.{copy_written, copy_outcome, stated, print, without_last_start}
+use Rattle.sx_top.specs.Copier.{Meant, copy_of}
+use Rattle.sx_top.specs.declared.copier.Copier.{Copier}
+use Rattle.sx_top.specs.Headline.{WrittenFor, OutcomeFor, IsMeaning, Grows}
 use Rattle.sx_top.specs.declared.consumer.Outcome.{Outcome}
 use Rattle.sx_top.specs.declared.consumer.Outcome.TheVariants as outcomes
 use Rattle.sx_top.proofs.Courses.{all_fit-append, fitting-all, fitting-append, fitting-broken, fitting-grows, written_broken, outcome_broken, outcome_going, outcome_done, course_grows, some_cause, no_cause, cause_first, cause_second, cause_third, no_causes, last_cause}
@@ -243,3 +244,12 @@ pub copy_bounded : (limits : Limits) (b : List ℕ) (ended : Bool) → limits.by
 copy_bounded limits b ended lt h =
     let refused = outcome_broken (course_of limits b ended) ended (at_limit limits b ended (lt-ltb limits.bytes (length b) lt)) in
     cc
+
+-- the copy is a meaning of bytes
+pub copy_is_meaning : IsMeaning (copy_written stated) (copy_outcome stated)
+copy_is_meaning = record { grows = copy_grows_by_bytes stated; done = copy_done stated; ends = copy_ends stated; bounded = copy_bounded stated }
+
+-- and so is what a copier stands for
+pub meant_is_meaning : (c : Copier) (written : WrittenFor) (outcome : OutcomeFor) (b : List ℕ) (ended : Bool) (w : List ℕ) → Meant c written outcome b ended w → IsMeaning written outcome
+meant_is_meaning c written outcome b ended w m =
+    subst (λ (x : WrittenFor). IsMeaning x outcome) (sym m.writes) (subst (λ (x : OutcomeFor). IsMeaning (copy_written stated) x) (sym m.ends) copy_is_meaning)

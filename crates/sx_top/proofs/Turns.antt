@@ -1,14 +1,14 @@
 -- A transformation, from call to call.
-use Rattle.std.proofs.Common.{◌≡◌, ◌≢◌, ◌⊎◌, inl, inr, ℕ, suc, ◌+◌, ◌<◌, ◌≤◌, Bool, true, false, cond, IsTrue, List, [], ◌∷◌, ◌++◌, length, take, drop, slice_get, Option, Some, None, option_and_then, unwrap_or, Ok, Err, refl, ap, ap₂, sym, ◌∙◌, subst, arith, append_assoc, append-nil, length-append, length-drop}
+use Rattle.std.proofs.Common.{◌≡◌, ◌≢◌, ◌⊎◌, inl, inr, ℕ, suc, ◌+◌, ◌^◌, ◌<◌, ◌≤◌, Bool, true, false, cond, IsTrue, List, [], ◌∷◌, ◌++◌, length, take, drop, slice_get, Option, Some, None, option_and_then, unwrap_or, Ok, Err, refl, ap, ap₂, sym, ◌∙◌, subst, arith, append_assoc, append-nil, length-append, length-drop}
 use Rattle.std.proofs.Math.Seq.{take-add}
 use Rattle.std.proofs.lemmas.Bool.{false≢true}
+use Rattle.std.proofs.lemmas.List.{take_all}
 use Rattle.sx_desk.specs.Desk.{Seen, Rose, Reads, TookNext, bytes_of}
 use Rattle.sx_desk.specs.declared.desk.Failed.{Failed}
 use Rattle.sx_desk.specs.declared.desk.Out.TheVariants as out
 use Rattle.sx_top.specs.Frame.{Sent, Sends}
-use Rattle.sx_top.specs.Headline.{Grows, RiseTo, HasMark, Answers, Transforms, ToldEnd, status_of}
-use Rattle.sx_top.specs.Turn.{is_end, ToldMid, Fed, Running, AfterFlush, AfterTurn}
-use Rattle.sx_top.specs.declared.reading.Turn.{Turn}
+use Rattle.sx_top.specs.Headline.{WrittenFor, OutcomeFor, IsMeaning, Grows, RiseTo, HasMark, Answers, Transforms, ToldEnd, TookWhole, status_of}
+use Rattle.sx_top.specs.Turn.{is_end, ToldMid, Fed, Running, Stops, AfterFlush, AfterTurn}
 use Rattle.sx_top.specs.declared.consumer.Outcome.{Outcome}
 use Rattle.sx_top.specs.declared.consumer.Outcome.TheVariants as outcomes
 use Rattle.sx_top.specs.declared.status.Status.{Status}
@@ -54,7 +54,7 @@ by_place : {A C P : Type 0} → A ⊎ C → (A → P) → (C → P) → P
 by_place (inl a) f g = f a
 by_place (inr b) f g = g b
 
-module _ (written : List ℕ → Bool → List ℕ) (outcome : List ℕ → Bool → Option Outcome) where
+module _ (written : WrittenFor) (outcome : OutcomeFor) where
   -- a read leaves what was written, and adds a mark
   mid_more : (e : Bool) (file n : ℕ) (start s0 s1 : Seen) (b buf : List ℕ) → EndIs e n → Running written outcome file start s0 b → Reads file s0 s1 buf (Ok n) → IsTrue s1.told →
       ToldMid written outcome file start s1 e (written b false)
@@ -249,11 +249,13 @@ module _ (written : List ℕ → Bool → List ℕ) (outcome : List ℕ → Bool
 
   answered : (o : Outcome) (b : List ℕ) (e : Bool) → (outcome b e ≡ Some outcomes.Done → e ≡ true) → outcome b e ≡ Some o → Answers written outcome (status_of o) b e (written b e)
   answered outcomes.Done b e last is = (last is, (is, refl))
-  answered outcomes.Refused b e last is = (is, refl)
+  answered (outcomes.Dynamic c) b e last is = (is, refl)
+  answered (outcomes.Refused i) b e last is = (is, refl)
 
   no_fault : (o : Outcome) → (status_of o ≢ status.Usage) × (status_of o ≢ status.OpenFault) × (status_of o ≢ status.ReadFault) × (status_of o ≢ status.WriteFault)
   no_fault outcomes.Done = (λ q. cc, λ q. cc, λ q. cc, λ q. cc)
-  no_fault outcomes.Refused = (λ q. cc, λ q. cc, λ q. cc, λ q. cc)
+  no_fault (outcomes.Dynamic c) = (λ q. cc, λ q. cc, λ q. cc, λ q. cc)
+  no_fault (outcomes.Refused i) = (λ q. cc, λ q. cc, λ q. cc, λ q. cc)
 
   -- the bytes have an outcome
   pub settled : (file : ℕ) (start now : Seen) (b : List ℕ) (e : Bool) (o : Outcome) → (outcome b e ≡ Some outcomes.Done → e ≡ true) → Fed written outcome file start now b e (written b e) → outcome b e ≡ Some o → Transforms written outcome file start now (status_of o)
@@ -358,23 +360,46 @@ module _ (written : List ℕ → Bool → List ℕ) (outcome : List ℕ → Bool
             (false, [], finished file s s status.OutOfMemory false [] (λ q. cc) (fed.told t) (written (take (s.taken file) (bytes_of s file)) false, refl));
       }
 
--- where the meaning is the same, so is what was fed
-pub fed_as : (w w' : List ℕ → Bool → List ℕ) (o o' : List ℕ → Bool → Option Outcome) (file : ℕ) (start now : Seen) (b : List ℕ) (e : Bool) (v : List ℕ) →
-    w' ≡ w → o' ≡ o → Fed w o file start now b e v → Fed w' o' file start now b e v
-fed_as w w' o o' file start now b e v p q fed =
-    subst (λ (x : List ℕ → Bool → List ℕ). Fed x o' file start now b e v) (sym p) (subst (λ (x : List ℕ → Bool → Option Outcome). Fed w x file start now b e v) (sym q) fed)
+  is_done : (o : Outcome) → status_of o ≡ status.Ok → o ≡ outcomes.Done
+  is_done outcomes.Done q = refl
+  is_done (outcomes.Dynamic c) q = absurd (cc)
+  is_done (outcomes.Refused i) q = absurd (cc)
 
-pub after_as : (w w' : List ℕ → Bool → List ℕ) (o o' : List ℕ → Bool → Option Outcome) (Stands : List ℕ → List ℕ → Type 0) (file : ℕ) (start now : Seen) (b : List ℕ) (e : Bool) (r : Option Status) →
-    w' ≡ w → o' ≡ o → AfterFlush w' o' Stands file start now b e r → AfterFlush w o Stands file start now b e r
-after_as w w' o o' Stands file start now b e r p q after =
-    subst (λ (x : List ℕ → Bool → List ℕ). AfterFlush x o Stands file start now b e r) p (subst (λ (x : List ℕ → Bool → Option Outcome). AfterFlush w' x Stands file start now b e r) q after)
+  module _ (Stands : List ℕ → Bool → List ℕ → Type 0) (file : ℕ) (start now : Seen) where
+    -- an end other than Ok
+    pub stops_short : (s : Status) → s ≢ status.Ok → Transforms written outcome file start now s → Stops written outcome Stands file start now s
+    stops_short s not_ok run = record { transforms = run; whole = λ q. absurd (not_ok q) }
 
-pub running_as : (w w' : List ℕ → Bool → List ℕ) (o o' : List ℕ → Bool → Option Outcome) (file : ℕ) (start now : Seen) (b : List ℕ) →
-    w' ≡ w → o' ≡ o → Running w o file start now b → Running w' o' file start now b
-running_as w w' o o' file start now b p q run =
-    subst (λ (x : List ℕ → Bool → List ℕ). Running x o' file start now b) (sym p) (subst (λ (x : List ℕ → Bool → Option Outcome). Running w x file start now b) (sym q) run)
+    took_whole : (b : List ℕ) (e : Bool) → e ≡ true → outcome b e ≡ Some outcomes.Done → Fed written outcome file start now b e (written b e) → Stands b e (written b e) → TookWhole Stands written outcome file start now
+    took_whole b false last done fed stands = absurd (false≢true last)
+    took_whole b true last done fed stands = record {
+      input = b;
+      done = done;
+      stands = stands;
+      told = λ t.
+          let all : now.taken file ≡ length (bytes_of start file) = (fed.told t).end refl in
+          fed.taken t ∙ take_all (now.taken file) (bytes_of start file) (omega arith);
+    }
 
-pub turn_as : (w w' : List ℕ → Bool → List ℕ) (o o' : List ℕ → Bool → Option Outcome) (Stands : List ℕ → List ℕ → Type 0) (file : ℕ) (start now : Seen) (b : List ℕ) (t : Turn) →
-    w' ≡ w → o' ≡ o → AfterTurn w' o' Stands file start now b t → AfterTurn w o Stands file start now b t
-turn_as w w' o o' Stands file start now b t p q after =
-    subst (λ (x : List ℕ → Bool → List ℕ). AfterTurn x o Stands file start now b t) p (subst (λ (x : List ℕ → Bool → Option Outcome). AfterTurn w' x Stands file start now b t) q after)
+    -- the bytes have an outcome, and all that can be written was written
+    pub settles : (b : List ℕ) (e : Bool) (o : Outcome) → IsMeaning written outcome → Fed written outcome file start now b e (written b e) → outcome b e ≡ Some o → Stands b e (written b e) →
+        Stops written outcome Stands file start now (status_of o)
+    settles b e o meaning fed is stands = record {
+      transforms = settled file start now b e o (meaning.done b e) fed is;
+      whole = λ ok.
+          let done = is ∙ ap (λ (x : Outcome). Some x) (is_done o ok) in
+          took_whole b e (meaning.done b e done) done fed stands;
+    }
+
+    -- bytes that have no outcome have not ended, and are within the limit
+    pub goes_on : (b : List ℕ) (e : Bool) → IsMeaning written outcome → outcome b e ≡ None → Fed written outcome file start now b e (written b e) → Stands b e (written b e) →
+        AfterFlush written outcome Stands file start now b e None
+    goes_on b true meaning is fed stands = absurd (meaning.ends b is)
+    goes_on b false meaning is fed stands =
+        let not_more = λ (lt : 2 ^ 40 < length b). meaning.bounded b false lt is in
+        (refl, record { meaning = meaning; fed = fed; going = is; within = omega (arith, not_more) }, stands)
+
+    -- a turn that wrote all that can be written
+    pub turned : (b piece : List ℕ) (e : Bool) (r : Option Status) → (e ≡ false → 1 ≤ length piece) → AfterFlush written outcome Stands file start now (b ++ piece) e r → AfterTurn written outcome Stands file start now b r
+    turned b piece e None some after = (piece, some after.0, after.1, after.2)
+    turned b piece e (Some s) some after = after

@@ -8,6 +8,7 @@ use Rattle.sx_tree.specs.declared.ancestors.SpineItem.{SpineItem}
 use Rattle.sx_tree.specs.declared.ancestors.SpineItem.TheVariants as item
 use Rattle.sx_top.specs.Form.{happenings, document_of, has_conformed, without_last_text, all_fit}
 use Rattle.sx_top.specs.Copy.{Built, copied, print, without_last_start, ends_in_text, copy_written, copy_outcome, stated}
+use Rattle.sx_top.specs.Headline.{WrittenFor, OutcomeFor}
 use Rattle.sx_top.specs.declared.nesting.Nesting.{Nesting}
 use Rattle.sx_top.specs.declared.printer.Printer.{Printer}
 use Rattle.sx_top.specs.declared.copier.Copier.{Copier}
@@ -61,3 +62,9 @@ pub record Stands (c : Copier) (b : List ℕ) (ended : Bool) (w : List ℕ) : Ty
   pub written : w ++ c.printer.due.items ≡ copy_written stated b ended
   pub outcome : c.outcome ≡ copy_outcome stated b ended
   pub going : c.outcome ≡ None → Going c b w
+
+-- The copier stands for the copy of a document.
+pub record Meant (c : Copier) (written : WrittenFor) (outcome : OutcomeFor) (b : List ℕ) (ended : Bool) (w : List ℕ) : Type 0 where
+  pub writes : written ≡ copy_written stated
+  pub ends : outcome ≡ copy_outcome stated
+  pub stands : Stands c b ended w

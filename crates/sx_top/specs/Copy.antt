@@ -3,6 +3,7 @@ use Rattle.std.specs.Prelude.{ℕ, ◌^◌, Bool, true, false, List, [], ◌∷�
 use Rattle.sx_tree.specs.Tree.{Forest, none, text, instruction, element, Document, tree_of}
 use Rattle.sx_top.specs.declared.consumer.Outcome.{Outcome}
 use Rattle.sx_top.specs.declared.consumer.Outcome.TheVariants as outcomes
+use Rattle.sx_top.specs.declared.status.Input.TheVariants as input
 use Rattle.sx_top.specs.Form.{Limits, course_of, events_of}
 
 -- what a result is built of: the start of an element, its end, a text
@@ -68,10 +69,14 @@ written_for_document d = print false (built d) ++ (if d.is_open then [] else end
 abbrev pub copy_written : Limits → List ℕ → Bool → List ℕ
 copy_written limits b ended = written_for_document (tree_of (events_of limits b ended))
 
+-- the document has not the form that is read today
+abbrev pub refused_document : Outcome
+refused_document = outcomes.Refused input.Document
+
 -- where bytes end: they are broken off, or the copy of the closed document is done
 abbrev pub copy_outcome : Limits → List ℕ → Bool → Option Outcome
 copy_outcome limits b ended =
-    if (course_of limits b ended).broken then Some outcomes.Refused
+    if (course_of limits b ended).broken then Some refused_document
     else if (tree_of (events_of limits b ended)).is_open then None
     else Some outcomes.Done
 

@@ -1,9 +1,8 @@
 -- What was read and written, at each read and at the end, whatever the meaning of the bytes is.
-use Rattle.std.specs.Prelude.{◌≡◌, ◌≢◌, ◌⊎◌, ◌↔◌, ℕ, suc, ◌+◌, ◌<◌, ◌≤◌, Bool, false, IsTrue, List, [], ◌∷◌, ◌++◌, length, take, Option, Some, None}
+use Rattle.std.specs.Prelude.{◌≡◌, ◌≢◌, ◌⊎◌, ◌↔◌, ℕ, suc, ◌+◌, ◌^◌, ◌<◌, ◌≤◌, Bool, true, false, IsTrue, List, [], ◌∷◌, ◌++◌, length, take, Option, Some, None}
 use Rattle.sx_desk.specs.Desk.{Seen, Rose, bytes_of}
 use Rattle.sx_desk.specs.declared.desk.Out.TheVariants as out
 use Rattle.sx_top.specs.Frame.{Frame}
-use Rattle.sx_top.specs.declared.status.Input.TheVariants as input
 use Rattle.sx_top.specs.declared.status.Status.{Status}
 use Rattle.sx_top.specs.declared.status.Status.TheVariants as status
 use Rattle.sx_top.specs.declared.consumer.Outcome.{Outcome}
@@ -30,15 +29,38 @@ HasMark t (mark ∷ marks) = (mark.0 ≡ t) ⊎ HasMark t marks
 -- the status that an outcome of a document's bytes gives
 abbrev pub status_of : Outcome → Status
 status_of outcomes.Done = status.Ok
-status_of outcomes.Refused = status.Refused input.Document
+status_of (outcomes.Dynamic c) = status.Dynamic c
+status_of (outcomes.Refused i) = status.Refused i
+
+-- what is written for bytes, and whether the input has ended with them
+abbrev pub WrittenFor : Type 0
+WrittenFor = List ℕ → Bool → List ℕ
+
+-- where bytes end, or nothing where more may come
+abbrev pub OutcomeFor : Type 0
+OutcomeFor = List ℕ → Bool → Option Outcome
 
 -- more bytes only add to what is written
-abbrev pub Grows : (List ℕ → Bool → List ℕ) → Type 0
+abbrev pub Grows : WrittenFor → Type 0
 Grows written = (b d : List ℕ) (ended : Bool) → (more : List ℕ) × (written (b ++ d) ended ≡ written b false ++ more)
 
--- Of bytes, and of whether the input has ended with them: `written` is what is written for them, and `outcome` is
--- where they end, or nothing where more may come.
-module _ (written : List ℕ → Bool → List ℕ) (outcome : List ℕ → Bool → Option Outcome) where
+-- A meaning of bytes: more bytes only add to what is written; the whole result is done only where the input has ended;
+-- an input that has ended has an outcome, and so have bytes beyond the limit of a document.
+pub record IsMeaning (written : WrittenFor) (outcome : OutcomeFor) : Type 0 where
+  pub grows : Grows written
+  pub done : (b : List ℕ) (ended : Bool) → outcome b ended ≡ Some outcomes.Done → ended ≡ true
+  pub ends : (b : List ℕ) → outcome b true ≢ None
+  pub bounded : (b : List ℕ) (ended : Bool) → 2 ^ 40 < length b → outcome b ended ≢ None
+
+-- A consumer, of which it is said what it stands for, took the whole file: it was fed all of its bytes and told of the
+-- end, and all that is written for them was taken from it.
+pub record TookWhole (Stands : List ℕ → Bool → List ℕ → Type 0) (written : WrittenFor) (outcome : OutcomeFor) (file : ℕ) (old new : Seen) : Type 0 where
+  pub input : List ℕ
+  pub done : outcome input true ≡ Some outcomes.Done
+  pub stands : Stands input true (written input true)
+  pub told : IsTrue new.told → input ≡ bytes_of old file
+
+module _ (written : WrittenFor) (outcome : OutcomeFor) where
   -- What a mark says where the content is c, the result had so many bytes before, and these were written in the call:
   -- the bytes taken by then have no outcome yet, and exactly what they determine was written.
   pub record MarkStands (c : List ℕ) (before : ℕ) (w : List ℕ) (mark : ℕ × ℕ) : Type 0 where
@@ -59,9 +81,8 @@ module _ (written : List ℕ → Bool → List ℕ) (outcome : List ℕ → Bool
   Answers status.Ok b ended w = IsTrue ended × Determined outcomes.Done b ended w
   Answers status.Usage b ended w = ⊥
   Answers (status.Static c l) b ended w = ⊥
-  Answers (status.Dynamic c) b ended w = ⊥
-  Answers (status.Refused input.Sheet) b ended w = ⊥
-  Answers (status.Refused input.Document) b ended w = Determined outcomes.Refused b ended w
+  Answers (status.Dynamic c) b ended w = Determined (outcomes.Dynamic c) b ended w
+  Answers (status.Refused i) b ended w = Determined (outcomes.Refused i) b ended w
   Answers status.OpenFault b ended w = ⊥
   Answers status.ReadFault b ended w = w ≡ written b false
   Answers status.WriteFault b ended w = BeginsWith (written b ended) w

@@ -3,23 +3,16 @@ use Rattle.std.specs.Prelude.{◌≡◌, ◌↔◌, ℕ, suc, ◌+◌, ◌^◌, 
 use Rattle.sx_desk.specs.Desk.{Seen, bytes_of}
 use Rattle.sx_desk.specs.declared.desk.Out.TheVariants as out
 use Rattle.sx_top.specs.Frame.{Frame}
-use Rattle.sx_top.specs.Headline.{Marked, HasMark, Transforms}
-use Rattle.sx_top.specs.declared.consumer.Outcome.{Outcome}
+use Rattle.sx_top.specs.Headline.{WrittenFor, OutcomeFor, IsMeaning, Marked, HasMark, Transforms, TookWhole}
 use Rattle.sx_top.specs.declared.status.Status.{Status}
-use Rattle.sx_top.specs.declared.reading.Turn.{Turn}
-use Rattle.sx_top.specs.declared.reading.Turn.TheVariants as turn
+use Rattle.sx_top.specs.declared.status.Status.TheVariants as status
 
 -- no bytes say that the input has ended
 abbrev pub is_end : List ℕ → Bool
 is_end [] = true
 is_end (x ∷ xs) = false
 
--- no more was taken than there is room for
-abbrev pub TakesAtMost : Turn → ℕ → Type 0
-TakesAtMost (turn.Taken n) room = n ≤ room
-TakesAtMost (turn.Stop s) room = Unit {0}
-
-module _ (written : List ℕ → Bool → List ℕ) (outcome : List ℕ → Bool → Option Outcome) where
+module _ (written : WrittenFor) (outcome : OutcomeFor) where
   pub record ShownMid (file : ℕ) (start now : Seen) (ended : Bool) (w : List ℕ) : Type 0 where
     pub bytes : now.written out.Result ≡ start.written out.Result ++ w
     pub marks : (added : List (ℕ × ℕ)) × Marked written outcome (bytes_of start file) (start.written_length out.Result) w (start.marks file) (now.marks file) added
@@ -41,17 +34,23 @@ module _ (written : List ℕ → Bool → List ℕ) (outcome : List ℕ → Bool
 
   -- Before a read: bytes b were taken, they have no outcome, and all that can be written for them was written.
   pub record Running (file : ℕ) (start now : Seen) (b : List ℕ) : Type 0 where
+    pub meaning : IsMeaning written outcome
     pub fed : Fed file start now b false (written b false)
     pub going : outcome b false ≡ None
     pub within : length b ≤ 2 ^ 40
 
-  module _ (Stands : List ℕ → List ℕ → Type 0) (file : ℕ) (start now : Seen) where
+  module _ (Stands : List ℕ → Bool → List ℕ → Type 0) (file : ℕ) (start now : Seen) where
+    -- the call ends with this status, and where it is Ok, the whole file was taken
+    pub record Stops (s : Status) : Type 0 where
+      pub transforms : Transforms written outcome file start now s
+      pub whole : s ≡ status.Ok → TookWhole Stands written outcome file start now
+
     -- after writing: the loop goes on, or there is an outcome or a fault
     abbrev pub AfterFlush : List ℕ → Bool → Option Status → Type 0
-    AfterFlush b ended None = (ended ≡ false) × Running file start now b × Stands b (written b false)
-    AfterFlush b ended (Some s) = Transforms written outcome file start now s
+    AfterFlush b ended None = (ended ≡ false) × Running file start now b × Stands b false (written b false)
+    AfterFlush b ended (Some s) = Stops s
 
-    -- after a turn: the loop goes on with the bytes that it took, or stops
-    abbrev pub AfterTurn : List ℕ → Turn → Type 0
-    AfterTurn b (turn.Taken n) = (piece : List ℕ) × (length piece ≡ n) × (1 ≤ n) × Running file start now (b ++ piece) × Stands (b ++ piece) (written (b ++ piece) false)
-    AfterTurn b (turn.Stop s) = Transforms written outcome file start now s
+    -- after a turn: the loop goes on with the bytes that it took, or ends
+    abbrev pub AfterTurn : List ℕ → Option Status → Type 0
+    AfterTurn b None = (piece : List ℕ) × (1 ≤ length piece) × Running file start now (b ++ piece) × Stands (b ++ piece) false (written (b ++ piece) false)
+    AfterTurn b (Some s) = Stops s

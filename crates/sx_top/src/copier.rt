@@ -11,7 +11,7 @@ ghost use Rattle.sx_esis.specs.Lines.{starts, ends, says};
 
 use crate::nesting::Nesting;
 use crate::printer::Printer;
-use crate::{Consumer, Outcome};
+use crate::{Consumer, Input, Outcome};
 use std::alloc::{AllocError, Global};
 use sx_esis::{LineReader, LineView};
 
@@ -146,7 +146,9 @@ impl Copier {
         if take_lines(&mut self.lines, &mut self.nesting, &mut self.printer)? {
             return Ok(());
         }
-        self.outcome = Some(Outcome::Refused);
+        self.outcome = Some(Outcome::Refused {
+            input: Input::Document,
+        });
         Ok(())
     }
 
@@ -155,7 +157,9 @@ impl Copier {
         ensures { OnOk result ((b d w : List ℕ) → Going self.old b w → 2 ^ 40 < length (b ++ d) → length b ≡ 2 ^ 40 → Stands self.new (b ++ d) false w) }
     {
         self.printer.break_off()?;
-        self.outcome = Some(Outcome::Refused);
+        self.outcome = Some(Outcome::Refused {
+            input: Input::Document,
+        });
         Ok(())
     }
 
@@ -187,7 +191,9 @@ impl Copier {
         }
         self.lines.finish();
         if !take_lines(&mut self.lines, &mut self.nesting, &mut self.printer)? {
-            self.outcome = Some(Outcome::Refused);
+            self.outcome = Some(Outcome::Refused {
+                input: Input::Document,
+            });
             return Ok(());
         }
         if self.nesting.is_whole() {
@@ -196,20 +202,31 @@ impl Copier {
             return Ok(());
         }
         self.printer.break_off()?;
-        self.outcome = Some(Outcome::Refused);
+        self.outcome = Some(Outcome::Refused {
+            input: Input::Document,
+        });
         Ok(())
+    }
+
+    // Counts what is due as taken.
+    fn clear_due(&mut self)
+        ensures { (b w : List ℕ) (ended : Bool) → Stands self.old b ended w → Stands self.new b ended (copy_written stated b ended) }
+    {
+        self.printer.clear_due();
     }
 }
 
 impl Consumer for Copier {
-    ghost use Rattle.sx_top.specs.Copier.{Stands};
-    ghost use Rattle.sx_top.specs.Copy.{copy_written, copy_outcome, stated};
+    ghost use Rattle.std.specs.Prelude.{◌≡◌, List, ℕ, Bool};
+    ghost use Rattle.sx_top.specs.Copier.{Meant};
 
-    ghost written_for = { λ _. copy_written stated };
+    ghost stands = { Meant };
 
-    ghost outcome_for = { λ _. copy_outcome stated };
+    ghost keeps = { λ _ _. Unit {0} };
 
-    ghost stands = { Stands };
+    ghost keeps_same = { λ c. tt };
+
+    ghost keeps_then = { λ a b c p q. tt };
 
     fn feed(&mut self, piece: &[u8]) -> Result<(), AllocError> {
         self.take_bytes(piece)
@@ -224,7 +241,7 @@ impl Consumer for Copier {
     }
 
     fn clear_output(&mut self) {
-        self.printer.clear_due();
+        self.clear_due();
     }
 
     fn outcome(&self) -> Option<Outcome> {

@@ -1,31 +1,28 @@
 // The reading loop: before each read all that can be written is written.
-ghost use Rattle.std.specs.Prelude.{◌≡◌, ◌<◌, ◌≤◌, ◌++◌, [], List, ℕ, Bool, false, true, IsTrue, OnOk, length};
+ghost use Rattle.std.specs.Prelude.{◌≡◌, ◌<◌, ◌≤◌, ◌++◌, [], List, ℕ, Bool, false, IsTrue, OnOk, length};
 ghost use Rattle.sx_desk.specs.Desk.{Seen};
-ghost use Rattle.sx_top.specs.Headline.{Grows, Transforms};
-ghost use Rattle.sx_top.specs.Turn.{Fed, Running, AfterFlush, AfterTurn, TakesAtMost, is_end};
+ghost use Rattle.sx_desk.specs.declared.desk.Out.TheVariants as out;
+ghost use Rattle.sx_top.specs.Frame.{Frame};
+ghost use Rattle.sx_top.specs.Headline.{WrittenFor, OutcomeFor, Transforms, TookWhole};
+ghost use Rattle.sx_top.specs.Turn.{Fed, Running, AfterFlush, AfterTurn, is_end};
+ghost use Rattle.sx_top.specs.declared.status.Status.TheVariants as status;
 
 use crate::send::write_all;
-use crate::{Consumer, Status};
+use crate::{Consumer, Input, Status};
 use std::alloc::{AllocError, Global};
 use sx_desk::{Desk, Out};
 
 /// The most bytes that one read takes.
 const PIECE: usize = 65_536;
 
-/// How a turn of the loop ended.
-pub(crate) enum Turn {
-    /// So many bytes were taken, and the loop goes on.
-    Taken(usize),
-    /// The loop ends.
-    Stop(Status),
-}
+/// The most reads behind which bytes have no outcome yet: each takes a byte at least.
+const MOST_READS: u64 = 1 << 40;
 
 // Feeds the consumer; no bytes say that the input has ended.
 fn advance<C: Consumer>(consumer: &mut C, piece: &[u8]) -> Result<(), AllocError>
-    ensures written { C.written_for consumer.new ≡ C.written_for consumer.old }
-    ensures outcome { C.outcome_for consumer.new ≡ C.outcome_for consumer.old }
-    ensures fed { OnOk result ((b w : List ℕ) → C.stands consumer.old b false w → C.stands consumer.new (b ++ piece.now) (is_end piece.now) w) }
-    ensures grows { Grows (C.written_for consumer.old) }
+    ensures fed { OnOk result ((written : WrittenFor) (outcome : OutcomeFor) (b w : List ℕ) → C.stands consumer.old written outcome b false w
+        → C.stands consumer.new written outcome (b ++ piece.now) (is_end piece.now) w) }
+    ensures keeps { C.keeps consumer.old consumer.new }
 {
     if piece.is_empty() {
         consumer.finish()
@@ -36,12 +33,12 @@ fn advance<C: Consumer>(consumer: &mut C, piece: &[u8]) -> Result<(), AllocError
 
 // Writes all that can be written, and says how the loop ends where it does.
 fn flush<D: Desk, C: Consumer>(desk: &mut D, consumer: &mut C) -> Option<Status>
-    ensures written { C.written_for consumer.new ≡ C.written_for consumer.old }
-    ensures outcome { C.outcome_for consumer.new ≡ C.outcome_for consumer.old }
-    ensures after { (file : ℕ) (start : Seen) (b w : List ℕ) (ended : Bool)
-        → Fed (C.written_for consumer.old) (C.outcome_for consumer.old) file start (D.seen desk.old) b ended w
-        → C.stands consumer.old b ended w
-        → AfterFlush (C.written_for consumer.old) (C.outcome_for consumer.old) (λ d v. C.stands consumer.new d false v) file start (D.seen desk.new) b ended result }
+    ensures frame { (file : ℕ) → Frame file out.Result (D.seen desk.old) (D.seen desk.new) }
+    ensures after { (written : WrittenFor) (outcome : OutcomeFor) (file : ℕ) (start : Seen) (b w : List ℕ) (ended : Bool)
+        → Fed written outcome file start (D.seen desk.old) b ended w
+        → C.stands consumer.old written outcome b ended w
+        → AfterFlush written outcome (C.stands consumer.new written outcome) file start (D.seen desk.new) b ended result }
+    ensures keeps { C.keeps consumer.old consumer.new }
 {
     match write_all(desk, Out::Result, consumer.output()) {
         Ok(()) => {}
@@ -60,50 +57,52 @@ fn take_turn<D: Desk, C: Consumer>(
     desk: &mut D,
     consumer: &mut C,
     buffer: &mut [u8],
-) -> Turn
+) -> Option<Status>
     requires room { 0 < length buffer.old }
     requires given { file < length (D.seen desk.old).opened }
-    ensures at_most { TakesAtMost result (length buffer.old) }
-    ensures written { C.written_for consumer.new ≡ C.written_for consumer.old }
-    ensures outcome { C.outcome_for consumer.new ≡ C.outcome_for consumer.old }
-    ensures after { (start : Seen) (b : List ℕ)
-        → Running (C.written_for consumer.old) (C.outcome_for consumer.old) file start (D.seen desk.old) b
-        → C.stands consumer.old b false (C.written_for consumer.old b false)
-        → AfterTurn (C.written_for consumer.old) (C.outcome_for consumer.old) (λ d v. C.stands consumer.new d false v) file start (D.seen desk.new) b result }
+    ensures frame { Frame file out.Result (D.seen desk.old) (D.seen desk.new) }
+    ensures after { (written : WrittenFor) (outcome : OutcomeFor) (start : Seen) (b : List ℕ)
+        → Running written outcome file start (D.seen desk.old) b
+        → C.stands consumer.old written outcome b false (written b false)
+        → AfterTurn written outcome (C.stands consumer.new written outcome) file start (D.seen desk.new) b result }
+    ensures keeps { C.keeps consumer.old consumer.new }
 {
     let count = match desk.read(file, buffer) {
         Ok(count) => count,
-        Err(_) => return Turn::Stop(Status::ReadFault),
+        Err(_) => return Some(Status::ReadFault),
     };
     match advance(consumer, &buffer[..count]) {
         Ok(()) => {}
-        Err(_) => return Turn::Stop(Status::OutOfMemory),
+        Err(_) => return Some(Status::OutOfMemory),
     }
-    match flush(desk, consumer) {
-        Some(status) => Turn::Stop(status),
-        None => Turn::Taken(count),
-    }
+    flush(desk, consumer)
 }
 
 // Goes on until the bytes have an outcome or the desk fails.
 fn run<D: Desk, C: Consumer>(file: u32, desk: &mut D, consumer: &mut C, buffer: &mut [u8]) -> Status
     requires room { 0 < length buffer.old }
-    requires piece { length buffer.old ≤ 65536 }
     requires given { file < length (D.seen desk.old).opened }
     requires untouched { IsTrue (D.seen desk.old).told → (D.seen desk.old).taken file ≡ 0 }
-    requires stands { C.stands consumer.old [] false [] }
-    ensures { Transforms (C.written_for consumer.old) (C.outcome_for consumer.old) file (D.seen desk.old) (D.seen desk.new) result }
+    ensures frame { Frame file out.Result (D.seen desk.old) (D.seen desk.new) }
+    ensures runs { (written : WrittenFor) (outcome : OutcomeFor) → C.stands consumer.old written outcome [] false []
+        → Transforms written outcome file (D.seen desk.old) (D.seen desk.new) result }
+    ensures whole { (written : WrittenFor) (outcome : OutcomeFor) → C.stands consumer.old written outcome [] false [] → result ≡ status.Ok
+        → TookWhole (C.stands consumer.new written outcome) written outcome file (D.seen desk.old) (D.seen desk.new) }
+    ensures keeps { C.keeps consumer.old consumer.new }
 {
     match flush(desk, consumer) {
         Some(status) => return status,
         None => {}
     }
-    let mut total: u64 = 0;
-    'reads: loop {
+    let mut count: u64 = 0;
+    'reads: while count <= MOST_READS {
         match take_turn(file, desk, consumer, buffer) {
-            Turn::Taken(count) => total += count as u64,
-            Turn::Stop(status) => return status,
+            Some(status) => return status,
+            None => count += 1,
         }
+    }
+    Status::Refused {
+        input: Input::Document,
     }
 }
 
@@ -117,8 +116,12 @@ pub fn transfer<D: Desk, C: Consumer>(
 ) -> Status
     requires given { file < length (D.seen desk.old).opened }
     requires untouched { IsTrue (D.seen desk.old).told → (D.seen desk.old).taken file ≡ 0 }
-    requires stands { C.stands consumer.old [] false [] }
-    ensures { Transforms (C.written_for consumer.old) (C.outcome_for consumer.old) file (D.seen desk.old) (D.seen desk.new) result }
+    ensures frame { Frame file out.Result (D.seen desk.old) (D.seen desk.new) }
+    ensures runs { (written : WrittenFor) (outcome : OutcomeFor) → C.stands consumer.old written outcome [] false []
+        → Transforms written outcome file (D.seen desk.old) (D.seen desk.new) result }
+    ensures whole { (written : WrittenFor) (outcome : OutcomeFor) → C.stands consumer.old written outcome [] false [] → result ≡ status.Ok
+        → TookWhole (C.stands consumer.new written outcome) written outcome file (D.seen desk.old) (D.seen desk.new) }
+    ensures keeps { C.keeps consumer.old consumer.new }
 {
     match vec![in alloc; 0u8; PIECE] {
         Ok(mut buffer) => run(file, desk, consumer, &mut buffer),

@@ -1,52 +1,50 @@
-use Rattle.std.proofs.Common.{◌≤◌, List, ℕ, false, take, length, length-take, ◌++◌, Some, None, arith}
+use Rattle.std.proofs.Common.{◌≤◌, ◌++◌, take, length, length-take, false, arith}
+use Rattle.sx_desk.specs.declared.desk.Out.TheVariants as out
 use Rattle.sx_top.specs.Turn.{is_end}
-use Rattle.sx_top.proofs.Turns.{read_fails, read_feeds, memory_wanting, fed_as, after_as, some_came}
+use Rattle.sx_top.proofs.Frames.{then, of_read}
+use Rattle.sx_top.proofs.Turns.{read_fails, read_feeds, memory_wanting, stops_short, turned, some_came}
 use Rattle.sx_top.proofs.Marks.{end_is}
 use Rattle.sx_top.proofs.reading.take_turn.Goals as goal
 
+pub returns-in-Err-clause-frame : goal.returns-in-Err-clause-frame
+returns-in-Err-clause-frame g c = of_read c.args.file out.Result (g.D.Desk.seen c.args.desk.now) (g.D.Desk.seen c.read.new.self) c.read.new.buf _ c.in-Err.ensures
+
 pub returns-in-Err-clause-after : goal.returns-in-Err-clause-after
-returns-in-Err-clause-after g c = λ start b run stands.
-    read_fails _ _ c.args.file start (g.D.Desk.seen c.args.desk.now) (g.D.Desk.seen c.read.new.self) b c.read.new.buf c.in-Err.field-0 run c.in-Err.ensures
+returns-in-Err-clause-after g c = λ written outcome start b run stands.
+    stops_short written outcome (g.C.Consumer.stands c.args.consumer.now written outcome) c.args.file start (g.D.Desk.seen c.read.new.self) _ (λ q. cc)
+    (read_fails written outcome c.args.file start (g.D.Desk.seen c.args.desk.now) (g.D.Desk.seen c.read.new.self) b c.read.new.buf c.in-Err.field-0 run c.in-Err.ensures)
+
+pub returns-in-Err-clause-keeps : goal.returns-in-Err-clause-keeps
+returns-in-Err-clause-keeps g c = g.met.C.Consumer.keeps_same c.args.consumer.now
+
+pub returns-in-Err-advance-clause-frame : goal.returns-in-Err-advance-clause-frame
+returns-in-Err-advance-clause-frame g c = of_read c.args.file out.Result (g.D.Desk.seen c.args.desk.now) (g.D.Desk.seen c.read.new.self) c.read.new.buf _ c.in-Ok.ensures
 
 pub returns-in-Err-advance-clause-after : goal.returns-in-Err-advance-clause-after
-returns-in-Err-advance-clause-after g c = λ start b run stands.
+returns-in-Err-advance-clause-after g c = λ written outcome start b run stands.
     let n = c.in-Ok.count in
     let buf = c.read.new.buf in
     let le : n ≤ length buf = c.in-Ok.ensures.at_most in
-    memory_wanting _ _ c.args.file start (g.D.Desk.seen c.read.new.self) b (take n buf) (is_end (take n buf)) c.in-Err-advance.ensures.grows
-    (read_feeds _ _ c.args.file n start (g.D.Desk.seen c.args.desk.now) (g.D.Desk.seen c.read.new.self) b buf run c.in-Ok.ensures le)
+    stops_short written outcome (g.C.Consumer.stands c.advance.new.consumer written outcome) c.args.file start (g.D.Desk.seen c.read.new.self) _ (λ q. cc)
+    (memory_wanting written outcome c.args.file start (g.D.Desk.seen c.read.new.self) b (take n buf) (is_end (take n buf)) run.meaning.grows
+    (read_feeds written outcome c.args.file n start (g.D.Desk.seen c.args.desk.now) (g.D.Desk.seen c.read.new.self) b buf run c.in-Ok.ensures le))
 
-pub returns-in-Some-clause-after : goal.returns-in-Some-clause-after
-returns-in-Some-clause-after g c = λ start b run stands.
-    let n = c.in-Ok.count in
-    let buf = c.read.new.buf in
-    let le : n ≤ length buf = c.in-Ok.ensures.at_most in
-    let w = g.C.Consumer.written_for c.args.consumer.now in
-    let o = g.C.Consumer.outcome_for c.args.consumer.now in
-    let w1 = g.C.Consumer.written_for c.advance.new.consumer in
-    let o1 = g.C.Consumer.outcome_for c.advance.new.consumer in
-    let fed = read_feeds w o c.args.file n start (g.D.Desk.seen c.args.desk.now) (g.D.Desk.seen c.read.new.self) b buf run c.in-Ok.ensures le in
-    let e = is_end (take n buf) in
-    let after = c.in-Some.ensures.after c.args.file start (b ++ take n buf) (w b false) e
-    (fed_as w w1 o o1 c.args.file start (g.D.Desk.seen c.read.new.self) (b ++ take n buf) e (w b false) c.advance.ensures.written c.advance.ensures.outcome fed)
-    (c.in-Ok-advance.ensures.fed b (w b false) stands) in
-    after_as w w1 o o1 (λ (d v : List ℕ). g.C.Consumer.stands c.flush.new.consumer d false v) c.args.file start (g.D.Desk.seen c.flush.new.desk) (b ++ take n buf) e (Some c.in-Some.status)
-    c.advance.ensures.written c.advance.ensures.outcome after
+pub returns-clause-frame : goal.returns-clause-frame
+returns-clause-frame g c =
+    then (of_read c.args.file out.Result (g.D.Desk.seen c.args.desk.now) (g.D.Desk.seen c.read.new.self) c.read.new.buf _ c.in-Ok.ensures) (c.flush.ensures.frame c.args.file)
 
-pub returns-in-None-clause-after : goal.returns-in-None-clause-after
-returns-in-None-clause-after g c = λ start b run stands.
+pub returns-clause-after : goal.returns-clause-after
+returns-clause-after g c = λ written outcome start b run stands.
     let n = c.in-Ok.count in
     let buf = c.read.new.buf in
     let le : n ≤ length buf = c.in-Ok.ensures.at_most in
-    let w = g.C.Consumer.written_for c.args.consumer.now in
-    let o = g.C.Consumer.outcome_for c.args.consumer.now in
-    let w1 = g.C.Consumer.written_for c.advance.new.consumer in
-    let o1 = g.C.Consumer.outcome_for c.advance.new.consumer in
-    let fed = read_feeds w o c.args.file n start (g.D.Desk.seen c.args.desk.now) (g.D.Desk.seen c.read.new.self) b buf run c.in-Ok.ensures le in
+    let fed = read_feeds written outcome c.args.file n start (g.D.Desk.seen c.args.desk.now) (g.D.Desk.seen c.read.new.self) b buf run c.in-Ok.ensures le in
     let e = is_end (take n buf) in
-    let after = c.in-None.ensures.after c.args.file start (b ++ take n buf) (w b false) e
-    (fed_as w w1 o o1 c.args.file start (g.D.Desk.seen c.read.new.self) (b ++ take n buf) e (w b false) c.advance.ensures.written c.advance.ensures.outcome fed)
-    (c.in-Ok-advance.ensures.fed b (w b false) stands) in
-    let same = after_as w w1 o o1 (λ (d v : List ℕ). g.C.Consumer.stands c.flush.new.consumer d false v) c.args.file start (g.D.Desk.seen c.flush.new.desk) (b ++ take n buf) e None
-    c.advance.ensures.written c.advance.ensures.outcome after in
-    (take n buf, omega (arith, length-take n buf), some_came e n (end_is n buf le) same.0, same.1, same.2)
+    let after = c.flush.ensures.after written outcome c.args.file start (b ++ take n buf) (written b false) e fed (c.in-Ok-advance.ensures.fed written outcome b (written b false) stands) in
+    turned written outcome (g.C.Consumer.stands c.flush.new.consumer written outcome) c.args.file start (g.D.Desk.seen c.flush.new.desk) b (take n buf) e c.flush.result
+    (λ going.
+    let some : 1 ≤ n = some_came e n (end_is n buf le) going in
+    omega (arith, length-take n buf)) after
+
+pub returns-clause-keeps : goal.returns-clause-keeps
+returns-clause-keeps g c = g.met.C.Consumer.keeps_then c.args.consumer.now c.advance.new.consumer c.flush.new.consumer c.advance.ensures.keeps c.flush.ensures.keeps

@@ -1,6 +1,6 @@
-use Rattle.sx_top.specs.Copy.{stated}
-use Rattle.sx_top.proofs.Growth.{copy_grows_by_bytes}
+use Rattle.std.proofs.lemmas.Result.{on_ok_weaker}
 use Rattle.sx_top.proofs.copier.CopierConsumer.feed.Goals as goal
 
-pub returns-clause-grows : goal.returns-clause-grows
-returns-clause-grows c = copy_grows_by_bytes stated
+pub returns-clause-fed : goal.returns-clause-fed
+returns-clause-fed c =
+    on_ok_weaker c.take_bytes.result (λ next written outcome b w m. record { writes = m.writes; ends = m.ends; stands = next b w m.stands }) c.take_bytes.ensures
