@@ -10,3 +10,4 @@ pub mod Machine
 pub mod Rules
 pub mod Moves
 pub mod Events
+pub mod Judgings

@@ -3,6 +3,7 @@
 
 mod plans;
 mod session;
+mod streamability;
 #[cfg(test)]
 mod tests;
 
@@ -15,3 +16,4 @@ pub use plans::{Plan, Rule};
 #[doc(hidden)]
 pub use session::{Frame, Job};
 pub use session::{Session, State, Step};
+pub use streamability::culprit;
