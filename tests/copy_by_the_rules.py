@@ -13,12 +13,16 @@ DEPTH = 200
 LINE = 1_048_576
 
 
-def by_the_rules(data):
-    """The bytes written for a document, and the status."""
+def lines_of(data):
+    """The lines of some bytes; a rest behind the last newline that is not empty is a line."""
     parts = data.split(b"\n")
-    lines = parts[:-1] + [part for part in parts[-1:] if part]
-    events, opened, has_root, conformed, broken = [], [], False, False, False
-    for line in lines:
+    return parts[:-1] + [part for part in parts[-1:] if part]
+
+
+def events_of(data):
+    """The events of a document up to its first line at fault, and whether it is whole."""
+    events, opened, has_root, conformed = [], [], False, False
+    for line in lines_of(data):
         fits = False
         if len(line) > LINE or conformed:
             pass
@@ -39,21 +43,30 @@ def by_the_rules(data):
         elif line == b"C":
             fits = conformed = has_root and not opened
         if not fits:
-            broken = True
-            break
-    broken = broken or not has_root or bool(opened)
-    if broken and events and events[-1][0] == b"(":
-        events.pop()
+            return events, False
+    return events, has_root and not opened
+
+
+def printed(events, is_whole):
+    """The bytes of a result. A start at the end of one that is not whole is withheld."""
+    if not is_whole and events and events[-1][0] == b"(":
+        events = events[:-1]
     written, after_text = b"", False
     for kind, text in events:
         if kind == b"-":
-            written += b"-" + text
+            written += text if after_text else b"-" + text
         else:
             written += (b"\n" if after_text else b"") + kind + text + b"\n"
         after_text = kind == b"-"
-    if not broken:
-        written += b"C\n"
-    return written, 4 if broken else 0
+    if is_whole:
+        written += (b"\n" if after_text else b"") + b"C\n"
+    return written
+
+
+def by_the_rules(data):
+    """The bytes written for a document, and the status."""
+    events, is_whole = events_of(data)
+    return printed(events, is_whole), 0 if is_whole else 4
 
 
 def random_document(rng):
@@ -101,4 +114,5 @@ def main():
     print("500 documents: as the rules say")
 
 
-main()
+if __name__ == "__main__":
+    main()
