@@ -1,0 +1,38 @@
+# What the measurements share: the documents, times with memory, and instructions per element. They write to "$work".
+here=$(cd "$(dirname "${BASH_SOURCE[0]}")/.." && pwd)
+program=$here/crates/sx_cli/out/sx_cli
+work=$(mktemp -d)
+trap 'rm -rf "$work"' EXIT
+
+document() { # elements, each an order with a note, five lines
+  awk -v n="$1" 'BEGIN {
+    print "(orders"
+    for (i = 0; i < n; i++) printf "(order\n(note\n-number %d, to be sent by the end of the week\n)note\n)order\n", i
+    print ")orders"; print "C"
+  }'
+}
+
+measure() { # name, input, command..: what it writes is left in "$work/result"
+  local name=$1 input=$2 times
+  shift 2
+  times=$( { /usr/bin/time -f '%e %M' "$@" >"$work/result"; } 2>&1)
+  awk -v name="$name" -v size="$(wc -c <"$input")" -v times="$times" 'BEGIN {
+    split(times, t, " ")
+    printf "%-10s %8.1f MB %7.2f s %8.1f MB/s %8d kB at most\n", name, size / 1e6, t[1], size / 1e6 / (t[1] > 0 ? t[1] : 0.01), t[2]
+  }'
+}
+
+instructions() { # elements, the program's words before the document..
+  document "$1" >"$work/small.esis"
+  shift
+  valgrind --tool=callgrind --callgrind-out-file="$work/callgrind" "$program" "$@" "$work/small.esis" 2>&1 >/dev/null |
+    awk '/Collected/ { print $NF }'
+}
+
+slope() { # the program's words before the document..: the slope between two small sizes, with valgrind alone
+  command -v valgrind >/dev/null || return 0
+  local low high
+  low=$(instructions 2000 "$@")
+  high=$(instructions 6000 "$@")
+  echo "instructions per element: $(((high - low) / 4000))"
+}
