@@ -17,10 +17,10 @@ last_lines (x ∷ xs) = (x ∷ xs) ∷ []
 pub rest_part : (k : ℕ) (xs : List ℕ) → take (length xs - k) (drop k xs) ≡ drop k xs
 rest_part k xs = take_all (length xs - k) (drop k xs) (omega (arith, length-drop k xs))
 
-more_one : (n : ℕ) → n + 1 ≡ suc n
+pub more_one : (n : ℕ) → n + 1 ≡ suc n
 more_one n = omega arith
 
-one_more : (n : ℕ) → 1 + n ≡ suc n
+pub one_more : (n : ℕ) → 1 + n ≡ suc n
 one_more n = omega arith
 
 first_by : (b : Bool) (x n : ℕ) (xs : List ℕ) → (n < length xs → lines_in xs ≡ take n xs ∷ lines_in (drop (suc n) xs)) →

@@ -1,7 +1,9 @@
-//! Reads stylesheets in their first, thin form.
+//! Takes the bytes of stylesheets as they come, and reads stylesheets in their first, thin form.
 #![tactic(auto)]
 
+mod bytes;
 mod form;
+pub mod laws;
 mod lines;
 mod places;
 mod reader;
@@ -11,4 +13,5 @@ mod stages;
 mod tests;
 mod thin;
 
+pub use bytes::SheetBytes;
 pub use thin::{StaticFault, ThinFault, read_thin};
