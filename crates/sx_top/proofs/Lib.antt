@@ -9,5 +9,6 @@ pub mod Nestings
 pub mod Printings
 pub mod Programs
 pub mod Stages
+pub mod Stylesheets
 pub mod Takings
 pub mod Turns

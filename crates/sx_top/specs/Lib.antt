@@ -6,6 +6,7 @@ pub mod Form
 pub mod Frame
 pub mod Headline
 pub mod Program
+pub mod Stylesheet
 pub mod Taking
 pub mod Turn
 pub mod Words

@@ -9,6 +9,7 @@ mod program;
 mod reading;
 mod send;
 mod status;
+mod stylesheet;
 #[cfg(test)]
 mod tests;
 mod words;
