@@ -6,47 +6,53 @@ use Rattle.sx_esis.specs.Lines.{Line, lines_of}
 use Rattle.sx_esis.specs.Stands as reader
 use Rattle.sx_esis.specs.declared.reader.LineReader.{LineReader}
 use Rattle.sx_esis.proofs.Grow.{reading_grows}
-use Rattle.sx_top.specs.Form.{happenings, document_of, is_whole, all_fit, course_of, without_last_text}
-use Rattle.sx_top.specs.Copy.{refused_document, print, without_last_start, ends_in_text, ending, stated}
-use Rattle.sx_top.specs.Copier.{Nested, Printed, Going, Stands, copy_of}
+use Rattle.sx_events.specs.Form.{happenings, document_of, is_whole, all_fit, course_of, without_last_text}
+use Rattle.sx_top.specs.Copy.{refused_document, print, without_last_start, ends_in_text, ending}
+use Rattle.sx_events.specs.Form.{stated}
+use Rattle.sx_top.specs.Copier.{Printed, Going, Stands, copy_of}
+use Rattle.sx_events.specs.Nested.{Nested}
 use Rattle.sx_top.specs.Taking.{Taking, TookAll, Broke}
 use Rattle.sx_top.specs.declared.copier.Copier.{Copier}
-use Rattle.sx_top.specs.declared.nesting.Nesting.{Nesting}
+use Rattle.sx_events.specs.declared.nesting.Nesting.{Nesting}
 use Rattle.sx_top.specs.declared.printer.Printer.{Printer}
 use Rattle.sx_top.specs.declared.consumer.Outcome.{Outcome}
 use Rattle.sx_top.specs.declared.consumer.Outcome.TheVariants as outcomes
 use Rattle.sx_top.proofs.Courses.{written_broken, written_going, written_done, outcome_broken, outcome_going, outcome_done}
-use Rattle.sx_top.proofs.Growth.{going_course, broken_course, limit_course, ended_course, copy_stays, outcome_means_broken}
+use Rattle.sx_top.proofs.Growth.{copy_stays, outcome_means_broken}
+use Rattle.sx_events.proofs.Reach.{ended_course}
+use Rattle.sx_events.proofs.Reach.{limit_course}
+use Rattle.sx_events.proofs.Reach.{broken_course}
+use Rattle.sx_events.proofs.Reach.{going_course}
 
 -- the lines that were taken of fewer bytes are the first of more
-taking_lines : (n : Nesting) (p : Printer) (r : LineReader) (b c w : List ℕ) (ended : Bool) (more : List Line) →
+taking_lines : (n : Nesting) (names : List (List ℕ × List ℕ)) (p : Printer) (r : LineReader) (b c w : List ℕ) (ended : Bool) (more : List Line) →
     (lines_of 1048576 c ended).lines ≡ (lines_of 1048576 b false).lines ++ more → all_fit 200 [] (lines_of 1048576 b false).lines ≡ true →
-    Nested n (lines_of 1048576 b false).lines → Printed p (happenings (lines_of 1048576 b false).lines) w →
-    reader.Stands r 1048576 c ended (length (lines_of 1048576 b false).lines) → Taking 1048576 c ended r n p w (length (lines_of 1048576 b false).lines)
-taking_lines n p r b c w ended more e fit nested printed stands =
+    Nested n names (lines_of 1048576 b false).lines → Printed p (happenings (lines_of 1048576 b false).lines) w →
+    reader.Stands r 1048576 c ended (length (lines_of 1048576 b false).lines) → Taking 1048576 c ended r n names p w (length (lines_of 1048576 b false).lines)
+taking_lines n names p r b c w ended more e fit nested printed stands =
     let ls = (lines_of 1048576 b false).lines in
     let first : take (length ls) (lines_of 1048576 c ended).lines ≡ ls = ap (take (length ls)) e ∙ take-append_seam ls more in
     record {
       lines = stands;
       fit = ap (all_fit 200 []) first ∙ fit;
-      nested = subst (λ (xs : List Line). Nested n xs) (sym first) nested;
+      nested = subst (λ (xs : List Line). Nested n names xs) (sym first) nested;
       printed = subst (λ (xs : List Line). Printed p (happenings xs) w) (sym first) printed;
     }
 
 pub taking_more : (c : Copier) (r : LineReader) (b d w : List ℕ) → Going c b w → reader.Stands r 1048576 (b ++ d) false (length (lines_of 1048576 b false).lines) →
-    Taking 1048576 (b ++ d) false r c.nesting c.printer w (length (lines_of 1048576 b false).lines)
+    Taking 1048576 (b ++ d) false r c.nesting c.names c.printer w (length (lines_of 1048576 b false).lines)
 taking_more c r b d w going stands =
     let m = reading_grows 1048576 b d false in
-    taking_lines c.nesting c.printer r b (b ++ d) w false m.0 m.1 going.fit going.nested going.printed stands
+    taking_lines c.nesting c.names c.printer r b (b ++ d) w false m.0 m.1 going.fit going.nested going.printed stands
 
 pub taking_end : (c : Copier) (r : LineReader) (b w : List ℕ) → Going c b w → reader.Stands r 1048576 b true (length (lines_of 1048576 b false).lines) →
-    Taking 1048576 b true r c.nesting c.printer w (length (lines_of 1048576 b false).lines)
+    Taking 1048576 b true r c.nesting c.names c.printer w (length (lines_of 1048576 b false).lines)
 taking_end c r b w going stands =
     let m = reading_grows 1048576 b [] true in
-    taking_lines c.nesting c.printer r b b w true m.0 (ap (λ (x : List ℕ). (lines_of 1048576 x true).lines) (sym (append-nil b)) ∙ m.1) going.fit going.nested going.printed stands
+    taking_lines c.nesting c.names c.printer r b b w true m.0 (ap (λ (x : List ℕ). (lines_of 1048576 x true).lines) (sym (append-nil b)) ∙ m.1) going.fit going.nested going.printed stands
 
 -- all lines were taken: the copier goes on
-pub stands_going : (c : Copier) (b w : List ℕ) → c.outcome ≡ None → c.total ≡ length b → length b ≤ 2 ^ 40 → TookAll 1048576 b false c.lines c.nesting c.printer w → Stands c b false w
+pub stands_going : (c : Copier) (b w : List ℕ) → c.outcome ≡ None → c.total ≡ length b → length b ≤ 2 ^ 40 → TookAll 1048576 b false c.lines c.nesting c.names c.printer w → Stands c b false w
 stands_going c b w none total le took =
     let course = going_course stated b le (took.fit, took.sound) in
     record {
@@ -89,10 +95,10 @@ stands_beyond c0 c b d w refused going at lt due =
     }
 
 -- the input has ended with a whole document
-pub stands_whole : (c : Copier) (b w : List ℕ) (r : LineReader) (n : Nesting) (p : Printer) → c.outcome ≡ Some outcomes.Done → length b ≤ 2 ^ 40 → TookAll 1048576 b true r n p w →
+pub stands_whole : (c : Copier) (b w : List ℕ) (r : LineReader) (n : Nesting) (names : List (List ℕ × List ℕ)) (p : Printer) → c.outcome ≡ Some outcomes.Done → length b ≤ 2 ^ 40 → TookAll 1048576 b true r n names p w →
     is_whole (document_of (lines_of 1048576 b true).lines) ≡ true →
     w ++ c.printer.due.items ≡ print false (copy_of (happenings (lines_of 1048576 b true).lines)) ++ ending (ends_in_text false (copy_of (happenings (lines_of 1048576 b true).lines))) → Stands c b true w
-stands_whole c b w r n p done le took whole due =
+stands_whole c b w r n names p done le took whole due =
     let course = ended_course stated b le (took.fit, took.sound) in
     let going = course.0 ∙ ap not whole in
     record {
@@ -102,10 +108,10 @@ stands_whole c b w r n p done le took whole due =
     }
 
 -- the input has ended in the middle of a document
-pub stands_cut_short : (c : Copier) (b w : List ℕ) (r : LineReader) (n : Nesting) (p : Printer) → c.outcome ≡ Some refused_document → length b ≤ 2 ^ 40 → TookAll 1048576 b true r n p w →
+pub stands_cut_short : (c : Copier) (b w : List ℕ) (r : LineReader) (n : Nesting) (names : List (List ℕ × List ℕ)) (p : Printer) → c.outcome ≡ Some refused_document → length b ≤ 2 ^ 40 → TookAll 1048576 b true r n names p w →
     is_whole (document_of (lines_of 1048576 b true).lines) ≡ false →
     w ++ c.printer.due.items ≡ print false (without_last_start (copy_of (happenings (lines_of 1048576 b true).lines))) → Stands c b true w
-stands_cut_short c b w r n p refused le took partial due =
+stands_cut_short c b w r n names p refused le took partial due =
     let course = ended_course stated b le (took.fit, took.sound) in
     let broken = course.0 ∙ ap not partial in
     record {

@@ -1,10 +1,8 @@
 -- The copy of one event more, and its printing.
 use Rattle.sx_tree.proofs.Open.{none_open, open-none, has_open-is, push_all-append, tree_of-snoc}
-use Rattle.sx_tree.specs.Events.{is_text, ends_in_text as text_is_last}
 use Rattle.std.proofs.Common.{◌≡◌, ◌≢◌, ℕ, Bool, true, false, cond, List, [], ◌∷◌, ◌++◌, refl, ap, sym, ◌∙◌, subst, append_assoc, append-nil}
 use Rattle.std.proofs.lemmas.Bool.{false≢true}
 use Rattle.sx_tree.specs.Tree.{Happening, starts, ends, says, instructs, closes, Forest, none, text, instruction, element, Document, push_node, push_end, push, push_all, tree_of, empty_document, has_open, open_elements}
-use Rattle.sx_top.specs.Form.{without_last_text}
 use Rattle.sx_top.specs.Copier.{copy_of}
 use Rattle.sx_top.specs.Copy.{Built, start, end, words, is_start, copied, without_last_start, newline_after, print, ends_in_text}
 
@@ -86,34 +84,6 @@ pub without_last_start-append : (bs : List Built) (c : Built) (cs : List Built) 
 without_last_start-append [] c cs = refl
 without_last_start-append (b ∷ []) c cs = refl
 without_last_start-append (b ∷ d ∷ bs) c cs = ap (λ (x : List Built). b ∷ x) (without_last_start-append (d ∷ bs) c cs)
-
-pub without_last_text-append : (hs : List (Happening (List ℕ))) (k : Happening (List ℕ)) (ks : List (Happening (List ℕ))) → without_last_text (hs ++ k ∷ ks) ≡ hs ++ without_last_text (k ∷ ks)
-without_last_text-append [] k ks = refl
-without_last_text-append (h ∷ []) k ks = refl
-without_last_text-append (h ∷ g ∷ hs) k ks = ap (λ (x : List (Happening (List ℕ))). h ∷ x) (without_last_text-append (g ∷ hs) k ks)
-
--- where no text is last nothing is left out
-pub no_text_last : (hs : List (Happening (List ℕ))) → text_is_last hs ≡ false → without_last_text hs ≡ hs
-no_text_last [] h = refl
-no_text_last (k ∷ []) h = ap (λ (v : Bool). cond v [] (k ∷ [])) h
-no_text_last (k ∷ g ∷ hs) h = ap (λ (x : List (Happening (List ℕ))). k ∷ x) (no_text_last (g ∷ hs) h)
-
-text_of : (k : Happening (List ℕ)) → is_text k ≡ true → (s : List ℕ) × (k ≡ says s)
-text_of (starts n) h = absurd (false≢true h)
-text_of ends h = absurd (false≢true h)
-text_of (says s) h = (s, refl)
-text_of (instructs t c) h = absurd (false≢true h)
-text_of closes h = absurd (false≢true h)
-
--- a text that is last
-pub text_last : (hs : List (Happening (List ℕ))) → text_is_last hs ≡ true → (gs : List (Happening (List ℕ))) × (s : List ℕ) × (hs ≡ gs ++ says s ∷ []) × (without_last_text hs ≡ gs)
-text_last [] h = absurd (false≢true h)
-text_last (k ∷ []) h =
-    let t = text_of k h in
-    ([], t.0, ap (λ (x : Happening (List ℕ)). x ∷ []) t.1, ap (λ (v : Bool). cond v [] (k ∷ [])) h)
-text_last (k ∷ g ∷ hs) h =
-    let t = text_last (g ∷ hs) h in
-    (k ∷ t.0, t.1, ap (λ (x : List (Happening (List ℕ))). k ∷ x) t.2, ap (λ (x : List (Happening (List ℕ))). k ∷ x) t.3)
 
 pub copy-start : (hs : List (Happening (List ℕ))) (n : List ℕ) → copy_of (hs ++ starts n ∷ []) ≡ copy_of hs ++ start n ∷ []
 copy-start hs n = ap (λ (d : Document (List ℕ)). copied d.content) (tree_of-snoc hs (starts n)) ∙ copied-push_node (tree_of hs).content (element n true none none)

@@ -1,14 +1,11 @@
 pub mod Copiers
 pub mod Copies
 pub mod Courses
-pub mod Documents
 pub mod Frames
 pub mod Growth
 pub mod Marks
-pub mod Nestings
 pub mod Printings
 pub mod Programs
-pub mod Stages
 pub mod Stylesheets
 pub mod Takings
 pub mod Turns

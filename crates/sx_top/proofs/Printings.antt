@@ -5,7 +5,8 @@ use Rattle.std.proofs.Common.{◌≡◌, ℕ, Bool, true, false, List, [], ◌�
 use Rattle.sx_tree.specs.Tree.{Happening, starts, ends, says, tree_of, open_elements}
 use Rattle.sx_top.specs.Copy.{Built, start, end, words, without_last_start, newline_after, print, ends_in_text, ending}
 use Rattle.sx_top.specs.Copier.{copy_of, PrintedAs}
-use Rattle.sx_top.proofs.Copies.{copy-start, copy-text, copy-end, print-append, ends_in_text-append, without_last_start-append, without_last_text-append, no_text_last, text_last}
+use Rattle.sx_events.proofs.Courses.{without_last_text-append, no_text_last, text_last}
+use Rattle.sx_top.proofs.Copies.{copy-start, copy-text, copy-end, print-append, ends_in_text-append, without_last_start-append}
 
 -- one built event more is printed behind the others
 print-snoc : (bs : List Built) (b : Built) → print false (bs ++ b ∷ []) ≡ print false bs ++ print (ends_in_text false bs) (b ∷ [])

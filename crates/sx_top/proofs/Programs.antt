@@ -5,7 +5,8 @@ use Rattle.sx_desk.specs.declared.desk.Failed.{Failed}
 use Rattle.sx_desk.specs.declared.desk.Out.TheVariants as out
 use Rattle.sx_top.specs.Frame.{Sends}
 use Rattle.sx_top.specs.Headline.{RiseTo, HasMark, MarksStand, Answers, Transforms, ToldEnd}
-use Rattle.sx_top.specs.Copy.{copy_written, copy_outcome, stated}
+use Rattle.sx_top.specs.Copy.{copy_written, copy_outcome}
+use Rattle.sx_events.specs.Form.{stated}
 use Rattle.sx_top.specs.Program.{Runs, Says, IsQuiet, Untouched, Ran, Opened, OpensOrNot, Headline}
 use Rattle.sx_top.specs.declared.consumer.Outcome.{Outcome}
 use Rattle.sx_top.specs.declared.status.Status.{Status}

@@ -1,35 +1,26 @@
 -- Taking lines one by one.
-use Rattle.std.proofs.Common.{◌≡◌, inl, inr, ℕ, ◌+◌, Bool, true, false, cond, ◌&&◌, List, [], ◌∷◌, ◌++◌, take, drop, slice_get, Some, ap, ap₂, sym, ◌∙◌, subst, arith, append_assoc}
-use Rattle.std.proofs.Common.{add-one}
-use Rattle.std.proofs.Math.Seq.{take-suc}
-use Rattle.std.proofs.lemmas.Option.{slice_get_within, get_or_from_slice_get}
-use Rattle.std.proofs.lemmas.List.{take_all, take-append-drop}
+use Rattle.std.proofs.Common.{◌≡◌, inl, inr, ℕ, ◌+◌, Bool, true, false, cond, ◌&&◌, List, [], ◌∷◌, ◌++◌, take, drop, slice_get, Some, ap, ap₂, sym, ◌∙◌, subst, arith}
+use Rattle.std.proofs.lemmas.List.{take_all}
 use Rattle.sx_esis.specs.Lines.{Line, lines_of}
 use Rattle.sx_esis.specs.Gives.{GaveAll, GivesFault}
 use Rattle.sx_esis.specs.Stands as reader
 use Rattle.sx_esis.specs.declared.reader.LineReader.{LineReader}
 use Rattle.sx_esis.specs.declared.reader.LineFault.{LineFault}
-use Rattle.sx_top.specs.Form.{happenings, fits, all_fit, fitting}
+use Rattle.sx_events.proofs.Lines.{next_line, around}
+use Rattle.sx_events.specs.Form.{happenings, fits, all_fit, fitting}
 use Rattle.sx_top.specs.Copy.{print, without_last_start}
-use Rattle.sx_top.specs.Copier.{Nested, Printed, copy_of}
+use Rattle.sx_top.specs.Copier.{Printed, copy_of}
+use Rattle.sx_events.specs.Nested.{Nested}
 use Rattle.sx_top.specs.Taking.{Taking, TookAll, Broke}
-use Rattle.sx_top.specs.declared.nesting.Nesting.{Nesting}
+use Rattle.sx_events.specs.declared.nesting.Nesting.{Nesting}
 use Rattle.sx_top.specs.declared.printer.Printer.{Printer}
-use Rattle.sx_top.proofs.Courses.{all_fit-append, fitting-all, fitting-append}
+use Rattle.sx_events.proofs.Courses.{fitting-append}
+use Rattle.sx_events.proofs.Courses.{fitting-all}
+use Rattle.sx_events.proofs.Courses.{all_fit-append}
 
--- one line more
-pub next_line : (xs : List Line) (k : ℕ) (x : Line) → slice_get xs k ≡ Some x → take (k + 1) xs ≡ take k xs ++ x ∷ []
-next_line xs k x e =
-    ap (λ (n : ℕ). take n xs) (add-one k) ∙ take-suc xs k x (slice_get_within xs k x e) ∙ ap (λ (y : Line). take k xs ++ y ∷ []) (get_or_from_slice_get xs k x x e)
-
--- the lines around one of them
-around : (xs : List Line) (k : ℕ) (x : Line) → slice_get xs k ≡ Some x → xs ≡ take k xs ++ x ∷ drop (k + 1) xs
-around xs k x e =
-    sym (take-append-drop (k + 1) xs) ∙ ap (λ (ys : List Line). ys ++ drop (k + 1) xs) (next_line xs k x e) ∙ append_assoc (take k xs) (x ∷ []) (drop (k + 1) xs)
-
-module _ (limit : ℕ) (b : List ℕ) (ended : Bool) (n : Nesting) (p : Printer) (w : List ℕ) (k : ℕ) (r : LineReader) (taking : Taking limit b ended r n p w k) where
+module _ (limit : ℕ) (b : List ℕ) (ended : Bool) (n : Nesting) (names : List (List ℕ × List ℕ)) (p : Printer) (w : List ℕ) (k : ℕ) (r : LineReader) (taking : Taking limit b ended r n names p w k) where
   -- no more lines have come
-  pub took_all : (r' : LineReader) → GaveAll (lines_of limit b ended) k → reader.Stands r' limit b ended k → TookAll limit b ended r' n p w
+  pub took_all : (r' : LineReader) → GaveAll (lines_of limit b ended) k → reader.Stands r' limit b ended k → TookAll limit b ended r' n names p w
   took_all r' all stands =
       let count = all.all in
       let whole : take k (lines_of limit b ended).lines ≡ (lines_of limit b ended).lines = take_all k (lines_of limit b ended).lines (omega arith) in
@@ -37,7 +28,7 @@ module _ (limit : ℕ) (b : List ℕ) (ended : Bool) (n : Nesting) (p : Printer)
         sound = all.sound;
         lines = subst (λ (m : ℕ). reader.Stands r' limit b ended m) count stands;
         fit = ap (all_fit 200 []) (sym whole) ∙ taking.fit;
-        nested = subst (λ (ls : List Line). Nested n ls) whole taking.nested;
+        nested = subst (λ (ls : List Line). Nested n names ls) whole taking.nested;
         printed = subst (λ (ls : List Line). Printed p (happenings ls) w) whole taking.printed;
       }
 
@@ -68,10 +59,10 @@ module _ (limit : ℕ) (b : List ℕ) (ended : Bool) (n : Nesting) (p : Printer)
       }
 
   -- a line is taken
-  pub took_line : (r' : LineReader) (n' : Nesting) (p' : Printer) (x : Line) → slice_get (lines_of limit b ended).lines k ≡ Some x → reader.Stands r' limit b ended (k + 1) →
+  pub took_line : (r' : LineReader) (n' : Nesting) (names' : List (List ℕ × List ℕ)) (p' : Printer) (x : Line) → slice_get (lines_of limit b ended).lines k ≡ Some x → reader.Stands r' limit b ended (k + 1) →
       fits 200 (take k (lines_of limit b ended).lines) x ≡ true →
-      Nested n' (take k (lines_of limit b ended).lines ++ x ∷ []) × Printed p' (happenings (take k (lines_of limit b ended).lines ++ x ∷ [])) w → Taking limit b ended r' n' p' w (k + 1)
-  took_line r' n' p' x is stands fit next =
+      Nested n' names' (take k (lines_of limit b ended).lines ++ x ∷ []) × Printed p' (happenings (take k (lines_of limit b ended).lines ++ x ∷ [])) w → Taking limit b ended r' n' names' p' w (k + 1)
+  took_line r' n' names' p' x is stands fit next =
       let ls = (lines_of limit b ended).lines in
       let more = next_line ls k x is in
       record {
@@ -79,6 +70,6 @@ module _ (limit : ℕ) (b : List ℕ) (ended : Bool) (n : Nesting) (p : Printer)
         fit =
             ap (all_fit 200 []) more ∙ all_fit-append 200 [] (take k ls) (x ∷ [])
             ∙ ap₂ (λ (u v : Bool). u && v) taking.fit (ap (λ (v : Bool). cond v true false) fit);
-        nested = subst (λ (ls : List Line). Nested n' ls) (sym more) next.0;
+        nested = subst (λ (ls : List Line). Nested n' names' ls) (sym more) next.0;
         printed = subst (λ (ls : List Line). Printed p' (happenings ls) w) (sym more) next.1;
       }

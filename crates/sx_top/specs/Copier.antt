@@ -1,41 +1,19 @@
 -- What the parts of a copier stand for.
 use Rattle.sx_tree.specs.Events.{ends_in_text as text_is_last}
-use Rattle.std.specs.Prelude.{◌≡◌, ℕ, ◌^◌, ◌≤◌, Bool, true, false, List, [], ◌∷◌, ◌++◌, length, slice_get, Some, None}
-use Rattle.sx_esis.specs.Lines.{Line, lines_of}
+use Rattle.std.specs.Prelude.{◌≡◌, ℕ, ◌^◌, ◌≤◌, Bool, true, false, List, [], ◌++◌, length, None}
+use Rattle.sx_esis.specs.Lines.{lines_of}
 use Rattle.sx_esis.specs.Stands as reader
-use Rattle.sx_tree.specs.Tree.{Happening, tree_of, open_elements, has_element}
-use Rattle.sx_tree.specs.declared.ancestors.SpineItem.{SpineItem}
-use Rattle.sx_tree.specs.declared.ancestors.SpineItem.TheVariants as item
-use Rattle.sx_top.specs.Form.{happenings, document_of, has_conformed, without_last_text, all_fit}
-use Rattle.sx_top.specs.Copy.{Built, copied, print, without_last_start, ends_in_text, copy_written, copy_outcome, stated}
+use Rattle.sx_tree.specs.Tree.{Happening, tree_of}
+use Rattle.sx_events.specs.Nested.{Nested}
+use Rattle.sx_events.specs.Form.{happenings, without_last_text, all_fit, stated}
+use Rattle.sx_top.specs.Copy.{Built, copied, print, without_last_start, ends_in_text, copy_written, copy_outcome}
 use Rattle.sx_top.specs.Headline.{WrittenFor, OutcomeFor}
-use Rattle.sx_top.specs.declared.nesting.Nesting.{Nesting}
 use Rattle.sx_top.specs.declared.printer.Printer.{Printer}
 use Rattle.sx_top.specs.declared.copier.Copier.{Copier}
 
 -- the copy of what has happened
 abbrev pub copy_of : List (Happening (List ℕ)) → List Built
 copy_of hs = copied (tree_of hs).content
-
--- an entry of the spine is the element of this name, in no namespace
-abbrev pub IsNamed : List (List ℕ × List ℕ) → SpineItem → List ℕ → Type 0
-IsNamed names item.Root name = ⊥
-IsNamed names (item.Element label attrs) name = slice_get names label.number ≡ Some ([], name)
-
--- entries are the elements of these names, one by one
-abbrev pub AreNamed : List (List ℕ × List ℕ) → List SpineItem → List (List ℕ) → Type 0
-AreNamed names [] [] = Unit {0}
-AreNamed names [] (n ∷ ns) = ⊥
-AreNamed names (i ∷ is) [] = ⊥
-AreNamed names (i ∷ is) (n ∷ ns) = IsNamed names i n × AreNamed names is ns
-
--- The nesting is that of the document of these lines.
-pub record Nested (n : Nesting) (p : List Line) : Type 0 where
-  pub elements : List SpineItem
-  pub entries : n.spine.entries ≡ item.Root ∷ elements
-  pub named : AreNamed n.names elements (open_elements (document_of p).content)
-  pub root : n.has_root ≡ has_element (document_of p).content
-  pub conformed : n.conformed ≡ has_conformed p
 
 -- Of the printed copy of what has happened, w was taken, the due part can be written now, and the held part may follow.
 pub record PrintedAs (due held : List ℕ) (after_text : Bool) (hs : List (Happening (List ℕ))) (w : List ℕ) : Type 0 where
@@ -54,7 +32,7 @@ pub record Going (c : Copier) (b w : List ℕ) : Type 0 where
   pub sound : (lines_of 1048576 b false).fault ≡ None
   pub fit : all_fit 200 [] (lines_of 1048576 b false).lines ≡ true
   pub lines : reader.Stands c.lines 1048576 b false (length (lines_of 1048576 b false).lines)
-  pub nested : Nested c.nesting (lines_of 1048576 b false).lines
+  pub nested : Nested c.nesting c.names (lines_of 1048576 b false).lines
   pub printed : Printed c.printer (happenings (lines_of 1048576 b false).lines) w
 
 -- The copier was fed these bytes, it was or was not told of the end, and w of what can be written was taken.

@@ -1,10 +1,10 @@
 -- The copy of a document: the meaning of a stylesheet that copies every node (XSLT 3.0, 6.7.3, shallow copy).
-use Rattle.std.specs.Prelude.{ℕ, ◌^◌, Bool, true, false, List, [], ◌∷◌, ◌++◌, Option, Some, None, if◌then◌else◌}
+use Rattle.std.specs.Prelude.{ℕ, Bool, true, false, List, [], ◌∷◌, ◌++◌, Option, Some, None, if◌then◌else◌}
 use Rattle.sx_tree.specs.Tree.{Forest, none, text, instruction, element, Document, tree_of}
 use Rattle.sx_top.specs.declared.consumer.Outcome.{Outcome}
 use Rattle.sx_top.specs.declared.consumer.Outcome.TheVariants as outcomes
 use Rattle.sx_top.specs.declared.status.Input.TheVariants as input
-use Rattle.sx_top.specs.Form.{Limits, course_of, events_of}
+use Rattle.sx_events.specs.Form.{Limits, course_of, events_of}
 
 -- what a result is built of: the start of an element, its end, a text
 pub data Built : Type 0 where
@@ -79,7 +79,3 @@ copy_outcome limits b ended =
     if (course_of limits b ended).broken then Some refused_document
     else if (tree_of (events_of limits b ended)).is_open then None
     else Some outcomes.Done
-
--- the limits of the program
-abbrev pub stated : Limits
-stated = record { line = 1048576; depth = 200; bytes = 2 ^ 40 }

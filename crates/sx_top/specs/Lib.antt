@@ -1,8 +1,6 @@
 pub mod Answers
 pub mod Copier
 pub mod Copy
-pub mod Documents
-pub mod Form
 pub mod Frame
 pub mod Headline
 pub mod Program

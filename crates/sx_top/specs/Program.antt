@@ -2,7 +2,8 @@
 use Rattle.std.specs.Prelude.{◌≡◌, ◌≢◌, ◌⊎◌, ◌↔◌, ℕ, suc, ◌+◌, ◌<◌, ◌≤◌, Bool, IsTrue, List, [], ◌∷◌, ◌++◌, length, take, Option, Some, None, unwrap_or, IsSome}
 use Rattle.sx_desk.specs.Desk.{Seen, Rose, StaysKnown}
 use Rattle.sx_desk.specs.declared.desk.Out.TheVariants as out
-use Rattle.sx_top.specs.Copy.{copy_written, copy_outcome, stated}
+use Rattle.sx_top.specs.Copy.{copy_written, copy_outcome}
+use Rattle.sx_events.specs.Form.{stated}
 use Rattle.sx_top.specs.Headline.{BeginsWith, RiseTo, HasMark, MarksStand, Answers}
 use Rattle.sx_top.specs.declared.consumer.Outcome.{Outcome}
 use Rattle.sx_top.specs.declared.status.Status.{Status}

@@ -2,18 +2,21 @@
 ghost use Rattle.std.specs.Prelude.{◌≡◌, ◌^◌, ◌<◌, ◌≤◌, [], ◌∷◌, ◌++◌, List, ℕ, Bool, true, false, IsTrue, IsFalse, OnOk, IfOk, None, Some, take, length};
 ghost use Rattle.sx_esis.specs.Lines.{Line};
 ghost use Rattle.sx_esis.specs.Gives.{view_line};
-ghost use Rattle.sx_top.specs.Form.{fits, happenings};
-ghost use Rattle.sx_top.specs.Copy.{copy_written, copy_outcome, stated, print, without_last_start};
-ghost use Rattle.sx_top.specs.Copier.{Nested, Printed, Going, Stands, copy_of};
+ghost use Rattle.sx_events.specs.Form.{fits, happenings};
+ghost use Rattle.sx_top.specs.Copy.{copy_written, copy_outcome, print, without_last_start};
+ghost use Rattle.sx_events.specs.Form.{stated};
+ghost use Rattle.sx_top.specs.Copier.{Printed, Going, Stands, copy_of};
+ghost use Rattle.sx_events.specs.Nested.{Nested};
 ghost use Rattle.sx_tree.specs.Tree.{Happening};
 ghost use Rattle.sx_top.specs.Taking.{Taking, AfterTaking};
 ghost use Rattle.sx_esis.specs.Lines.{starts, ends, says};
 
-use crate::nesting::Nesting;
 use crate::printer::Printer;
 use crate::{Consumer, Input, Outcome};
 use std::alloc::{AllocError, Global};
 use sx_esis::{LineReader, LineView};
+use sx_events::Nesting;
+use sx_names::Names;
 
 /// The most bytes of a line without its newline.
 const LINE_LIMIT: u64 = 1_048_576;
@@ -25,6 +28,7 @@ const DOCUMENT_LIMIT: u64 = 1 << 40;
 #[derive(Drop)]
 pub(crate) struct Copier {
     lines: LineReader,
+    names: Names,
     nesting: Nesting,
     printer: Printer,
     total: u64,
@@ -33,43 +37,55 @@ pub(crate) struct Copier {
 
 // Takes a line, if it fits.
 fn take_line(
+    names: &mut Names,
     nesting: &mut Nesting,
     printer: &mut Printer,
     line: LineView<'_>,
 ) -> Result<bool, AllocError>
-    ensures is { IfOk result (λ fit. (p : List Line) (w : List ℕ) → Nested nesting.old p → Printed printer.old (happenings p) w → fit ≡ fits 200 p (view_line line.entry)) }
-    ensures next { IfOk result (λ fit. IsTrue fit → (p : List Line) (w : List ℕ) → Nested nesting.old p → Printed printer.old (happenings p) w
-        → Nested nesting.new (p ++ view_line line.entry ∷ []) × Printed printer.new (happenings (p ++ view_line line.entry ∷ [])) w) }
+    ensures is { IfOk result (λ fit. (p : List Line) (w : List ℕ) → Nested nesting.old names.old p → Printed printer.old (happenings p) w → fit ≡ fits 200 p (view_line line.entry)) }
+    ensures next { IfOk result (λ fit. IsTrue fit → (p : List Line) (w : List ℕ) → Nested nesting.old names.old p → Printed printer.old (happenings p) w
+        → Nested nesting.new names.new (p ++ view_line line.entry ∷ []) × Printed printer.new (happenings (p ++ view_line line.entry ∷ [])) w) }
     ensures kept { IfOk result (λ fit. IsFalse fit → (p : List Line) (w : List ℕ) → Printed printer.old (happenings p) w → Printed printer.new (happenings p) w) }
 {
     match line {
-        LineView::Start(name) => take_start(nesting, printer, name),
-        LineView::End(name) => take_end(nesting, printer, name),
+        LineView::Start(name) => take_start(names, nesting, printer, name),
+        LineView::End(name) => take_end(names, nesting, printer, name),
         LineView::Text(text) => take_text(nesting, printer, text),
         LineView::Conforming => Ok(nesting.conform()),
     }
 }
 
-fn take_start(nesting: &mut Nesting, printer: &mut Printer, name: &str) -> Result<bool, AllocError>
-    ensures is { IfOk result (λ fit. (p : List Line) (w : List ℕ) → Nested nesting.old p → Printed printer.old (happenings p) w → fit ≡ fits 200 p (starts name.now)) }
-    ensures next { IfOk result (λ fit. IsTrue fit → (p : List Line) (w : List ℕ) → Nested nesting.old p → Printed printer.old (happenings p) w
-        → Nested nesting.new (p ++ starts name.now ∷ []) × Printed printer.new (happenings (p ++ starts name.now ∷ [])) w) }
+fn take_start(
+    names: &mut Names,
+    nesting: &mut Nesting,
+    printer: &mut Printer,
+    name: &str,
+) -> Result<bool, AllocError>
+    ensures is { IfOk result (λ fit. (p : List Line) (w : List ℕ) → Nested nesting.old names.old p → Printed printer.old (happenings p) w → fit ≡ fits 200 p (starts name.now)) }
+    ensures next { IfOk result (λ fit. IsTrue fit → (p : List Line) (w : List ℕ) → Nested nesting.old names.old p → Printed printer.old (happenings p) w
+        → Nested nesting.new names.new (p ++ starts name.now ∷ []) × Printed printer.new (happenings (p ++ starts name.now ∷ [])) w) }
     ensures kept { IfOk result (λ fit. IsFalse fit → printer.new ≡ printer.old) }
 {
-    let fit = nesting.start(name)?;
-    if fit {
-        printer.start(name)?;
+    match nesting.start(names, name)? {
+        Some(_) => {}
+        None => return Ok(false),
     }
-    Ok(fit)
+    printer.start(name)?;
+    Ok(true)
 }
 
-fn take_end(nesting: &mut Nesting, printer: &mut Printer, name: &str) -> Result<bool, AllocError>
-    ensures is { IfOk result (λ fit. (p : List Line) (w : List ℕ) → Nested nesting.old p → Printed printer.old (happenings p) w → fit ≡ fits 200 p (ends name.now)) }
-    ensures next { IfOk result (λ fit. IsTrue fit → (p : List Line) (w : List ℕ) → Nested nesting.old p → Printed printer.old (happenings p) w
-        → Nested nesting.new (p ++ ends name.now ∷ []) × Printed printer.new (happenings (p ++ ends name.now ∷ [])) w) }
+fn take_end(
+    names: &Names,
+    nesting: &mut Nesting,
+    printer: &mut Printer,
+    name: &str,
+) -> Result<bool, AllocError>
+    ensures is { IfOk result (λ fit. (p : List Line) (w : List ℕ) → Nested nesting.old names.now p → Printed printer.old (happenings p) w → fit ≡ fits 200 p (ends name.now)) }
+    ensures next { IfOk result (λ fit. IsTrue fit → (p : List Line) (w : List ℕ) → Nested nesting.old names.now p → Printed printer.old (happenings p) w
+        → Nested nesting.new names.now (p ++ ends name.now ∷ []) × Printed printer.new (happenings (p ++ ends name.now ∷ [])) w) }
     ensures kept { IfOk result (λ fit. IsFalse fit → printer.new ≡ printer.old) }
 {
-    let fit = nesting.end(name);
+    let fit = nesting.end(names, name);
     if fit {
         printer.end(name)?;
     }
@@ -77,9 +93,9 @@ fn take_end(nesting: &mut Nesting, printer: &mut Printer, name: &str) -> Result<
 }
 
 fn take_text(nesting: &mut Nesting, printer: &mut Printer, text: &str) -> Result<bool, AllocError>
-    ensures is { IfOk result (λ fit. (p : List Line) (w : List ℕ) → Nested nesting.old p → Printed printer.old (happenings p) w → fit ≡ fits 200 p (says text.now)) }
-    ensures next { IfOk result (λ fit. IsTrue fit → (p : List Line) (w : List ℕ) → Nested nesting.old p → Printed printer.old (happenings p) w
-        → Nested nesting.new (p ++ says text.now ∷ []) × Printed printer.new (happenings (p ++ says text.now ∷ [])) w) }
+    ensures is { (names : List (List ℕ × List ℕ)) → IfOk result (λ fit. (p : List Line) (w : List ℕ) → Nested nesting.old names p → Printed printer.old (happenings p) w → fit ≡ fits 200 p (says text.now)) }
+    ensures next { (names : List (List ℕ × List ℕ)) → IfOk result (λ fit. IsTrue fit → (p : List Line) (w : List ℕ) → Nested nesting.old names p → Printed printer.old (happenings p) w
+        → Nested nesting.new names (p ++ says text.now ∷ []) × Printed printer.new (happenings (p ++ says text.now ∷ [])) w) }
     ensures kept { IfOk result (λ fit. IsFalse fit → printer.new ≡ printer.old) }
 {
     if !nesting.has_open() {
@@ -95,18 +111,19 @@ fn take_text(nesting: &mut Nesting, printer: &mut Printer, text: &str) -> Result
 // Takes all lines that have come, up to the first that is at fault or does not fit; what stands before that is due.
 fn take_lines(
     lines: &mut LineReader,
+    names: &mut Names,
     nesting: &mut Nesting,
     printer: &mut Printer,
 ) -> Result<bool, AllocError>
-    ensures { IfOk result (λ all. (b w : List ℕ) (ended : Bool) (given : ℕ) → Taking 1048576 b ended lines.old nesting.old printer.old w given
-        → AfterTaking 1048576 b ended lines.new nesting.new printer.new w all) }
+    ensures { IfOk result (λ all. (b w : List ℕ) (ended : Bool) (given : ℕ) → Taking 1048576 b ended lines.old nesting.old names.old printer.old w given
+        → AfterTaking 1048576 b ended lines.new nesting.new names.new printer.new w all) }
 {
     'lines: loop {
         match lines.next() {
             None => return Ok(true),
             Some(Err(_)) => return break_off(printer),
             Some(Ok(line)) => {
-                if !take_line(nesting, printer, line)? {
+                if !take_line(names, nesting, printer, line)? {
                     return break_off(printer);
                 }
             }
@@ -130,6 +147,7 @@ impl Copier {
     {
         Copier {
             lines: LineReader::new(alloc, LINE_LIMIT),
+            names: sx_names::new(alloc),
             nesting: Nesting::new(alloc),
             printer: Printer::new(alloc),
             total: 0,
@@ -143,7 +161,12 @@ impl Copier {
     {
         self.lines.feed(piece)?;
         self.total = self.total.saturating_add(piece.len() as u64);
-        if take_lines(&mut self.lines, &mut self.nesting, &mut self.printer)? {
+        if take_lines(
+            &mut self.lines,
+            &mut self.names,
+            &mut self.nesting,
+            &mut self.printer,
+        )? {
             return Ok(());
         }
         self.outcome = Some(Outcome::Refused {
@@ -190,7 +213,12 @@ impl Copier {
             return Ok(());
         }
         self.lines.finish();
-        if !take_lines(&mut self.lines, &mut self.nesting, &mut self.printer)? {
+        if !take_lines(
+            &mut self.lines,
+            &mut self.names,
+            &mut self.nesting,
+            &mut self.printer,
+        )? {
             self.outcome = Some(Outcome::Refused {
                 input: Input::Document,
             });

@@ -3,7 +3,6 @@
 
 mod consumer;
 mod copier;
-mod nesting;
 mod printer;
 mod program;
 mod reading;

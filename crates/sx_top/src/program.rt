@@ -1,7 +1,8 @@
 // The whole program.
 ghost use Rattle.std.specs.Prelude.{◌≡◌, ◌<◌, ◌^◌, length, map, string_bytes};
 ghost use Rattle.sx_top.specs.Answers.{diagnostic_of};
-ghost use Rattle.sx_top.specs.Copy.{copy_written, copy_outcome, stated};
+ghost use Rattle.sx_top.specs.Copy.{copy_written, copy_outcome};
+ghost use Rattle.sx_events.specs.Form.{stated};
 ghost use Rattle.sx_top.specs.Program.{Headline, IsQuiet, Runs, Says};
 ghost use Rattle.sx_top.specs.Words.{document_asked};
 

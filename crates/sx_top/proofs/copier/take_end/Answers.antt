@@ -1,9 +1,9 @@
 use Rattle.std.proofs.Common.{List, ℕ, sym, subst, ◌∙◌}
 use Rattle.sx_esis.specs.Lines.{ends}
 use Rattle.sx_tree.specs.Tree.{Happening}
-use Rattle.sx_top.specs.Form.{happenings}
+use Rattle.sx_events.specs.Form.{happenings}
 use Rattle.sx_top.specs.Copier.{Printed}
-use Rattle.sx_top.proofs.Nestings.{happenings-snoc, open_at_end}
+use Rattle.sx_events.proofs.Nestings.{happenings-snoc, open_at_end}
 use Rattle.sx_top.proofs.copier.take_end.Goals as goal
 
 pub returns-in_ok-end-clause-next : goal.returns-in_ok-end-clause-next

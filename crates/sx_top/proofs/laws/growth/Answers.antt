@@ -1,4 +1,4 @@
-use Rattle.sx_top.specs.Copy.{stated}
+use Rattle.sx_events.specs.Form.{stated}
 use Rattle.sx_top.proofs.Growth.{copy_grows_by_bytes}
 use Rattle.sx_top.proofs.laws.growth.Goals as goal
 

@@ -1,5 +1,6 @@
 use Rattle.std.proofs.Common.{refl}
-use Rattle.sx_top.specs.Copy.{copy_written, copy_outcome, stated}
+use Rattle.sx_top.specs.Copy.{copy_written, copy_outcome}
+use Rattle.sx_events.specs.Form.{stated}
 use Rattle.sx_top.proofs.Programs.{run_of}
 use Rattle.sx_top.proofs.program.copy.Goals as goal
 

@@ -1,6 +1,6 @@
 use Rattle.std.proofs.Common.{false, refl}
 use Rattle.sx_esis.specs.Lines.{lines_of}
-use Rattle.sx_top.specs.Form.{happenings}
+use Rattle.sx_events.specs.Form.{happenings}
 use Rattle.sx_top.proofs.Copiers.{stands_beyond}
 use Rattle.sx_top.proofs.copier.Copier.pass_limit.Goals as goal
 

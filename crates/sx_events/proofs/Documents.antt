@@ -6,10 +6,10 @@ use Rattle.std.proofs.lemmas.Slice.Eq.{bytes_eq-Decides}
 use Rattle.sx_esis.specs.Lines.{Line, starts, ends, says, conforms}
 use Rattle.sx_tree.specs.Tree.{has_open, has_element, open_elements}
 use Rattle.sx_tree.proofs.Open.{open-none, none_open}
-use Rattle.sx_top.specs.Form.{document_of, is_whole, all_fit}
-use Rattle.sx_top.specs.Documents.{Nodes, none, text, element, lines_of_element, lines_of_nodes, depth_of, begins_with_text, no_texts_together, IsDocument, BeginsDocument}
-use Rattle.sx_top.proofs.Courses.{all_fit-append}
-use Rattle.sx_top.proofs.Stages.{Stage, before, within, behind, run, Reaches, Verdict, runs, not_empty, outermost_first}
+use Rattle.sx_events.specs.Form.{document_of, is_whole, all_fit}
+use Rattle.sx_events.specs.Documents.{Nodes, none, text, element, lines_of_element, lines_of_nodes, depth_of, begins_with_text, no_texts_together, IsDocument, BeginsDocument}
+use Rattle.sx_events.proofs.Courses.{all_fit-append}
+use Rattle.sx_events.proofs.Stages.{Stage, before, within, behind, run, Reaches, Verdict, runs, not_empty, outermost_first}
 
 both : (a b : Bool) → (a && b) ≡ true → (a ≡ true) × (b ≡ true)
 both true b h = (refl, h)

@@ -8,8 +8,8 @@ use Rattle.sx_esis.specs.Lines.{Line, starts, ends, says, conforms}
 use Rattle.sx_tree.specs.Tree as tree
 use Rattle.sx_tree.specs.Tree.{Happening, Forest, none, text, instruction, element, Document, push_node, push_end, has_open, has_element, open_elements, begun}
 use Rattle.sx_tree.proofs.Open.{open-push_node, open-push_end, open-none, none_open, element-push_start, element-push_end}
-use Rattle.sx_top.specs.Form.{happening, happenings, document_of, has_conformed, last_is, is_whole, fits, all_fit}
-use Rattle.sx_top.proofs.Nestings.{happenings-snoc, document-snoc, document-conforms, conformed-snoc, conformed-last, element-push_text, last_is-snoc}
+use Rattle.sx_events.specs.Form.{happening, happenings, document_of, has_conformed, last_is, is_whole, fits, all_fit}
+use Rattle.sx_events.proofs.Nestings.{happenings-snoc, document-snoc, document-conforms, conformed-snoc, conformed-last, element-push_text, last_is-snoc}
 
 -- Nothing has come; or the root has, with the open elements, the innermost first, and whether a text came last; or the
 -- document conformed.

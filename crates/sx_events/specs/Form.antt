@@ -1,6 +1,6 @@
 -- The form of a document that is read today, and the events of its bytes.
 use Rattle.sx_tree.specs.Events.{is_text, ends_in_text as text_is_last}
-use Rattle.std.specs.Prelude.{ℕ, Bool, true, false, not, ◌&&◌, ◌||◌, nat_lt, bytes_eq, List, [], ◌∷◌, ◌++◌, length, take, is_some, if◌then◌else◌}
+use Rattle.std.specs.Prelude.{ℕ, ◌^◌, Bool, true, false, not, ◌&&◌, ◌||◌, nat_lt, bytes_eq, List, [], ◌∷◌, ◌++◌, length, take, is_some, if◌then◌else◌}
 use Rattle.sx_esis.specs.Lines.{Line, starts, ends, says, conforms, Reading, lines_of}
 use Rattle.sx_tree.specs.Tree as tree
 use Rattle.sx_tree.specs.Tree.{Happening, Document, tree_of, has_open, has_element, open_elements}
@@ -10,6 +10,10 @@ pub record Limits : Type 0 where
   pub line : ℕ
   pub depth : ℕ
   pub bytes : ℕ
+
+-- the limits of the program
+abbrev pub stated : Limits
+stated = record { line = 1048576; depth = 200; bytes = 2 ^ 40 }
 
 -- what a line makes happen, where an element is known by its name; that the document conformed is no event
 abbrev pub happening : Line → List (Happening (List ℕ))
