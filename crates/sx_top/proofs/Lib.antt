@@ -1,3 +1,4 @@
+pub mod Comings
 pub mod Copiers
 pub mod Copies
 pub mod Courses
