@@ -14,4 +14,7 @@ mod tests;
 mod thin;
 
 pub use bytes::SheetBytes;
+// A lemma of another crate can speak of the numbers of constructs only if this type is exported.
+#[doc(hidden)]
+pub use places::Place;
 pub use thin::{StaticFault, ThinFault, read_thin};

@@ -6,15 +6,16 @@ ghost use Rattle.sx_sheet.specs.Numbers.{IsSmall};
 use sx_kinds::{Construct, ConstructKind};
 
 /// How many constructs have started, and how many lines were read.
+#[doc(hidden)]
 #[derive(Clone, Copy)]
-pub(crate) struct Place {
+pub struct Place {
     pub constructs: u64,
     pub lines: u64,
 }
 
 impl Place {
     /// Behind so many constructs more, and one line.
-    pub fn further(self, constructs: u64) -> Place
+    pub(crate) fn further(self, constructs: u64) -> Place
         requires small { IsSmall self }
         requires more { constructs < 2 ^ 60 }
         ensures { result ≡ numbers.further constructs 1 self }
@@ -26,7 +27,7 @@ impl Place {
     }
 
     /// The construct that starts on the next line.
-    pub fn next_construct(self, kind: ConstructKind) -> Construct
+    pub(crate) fn next_construct(self, kind: ConstructKind) -> Construct
         requires small { IsSmall self }
         ensures { result ≡ numbers.next_construct self kind }
     {

@@ -1,3 +1,4 @@
+pub mod Accepting
 pub mod Comings
 pub mod Copiers
 pub mod Copies
