@@ -3,7 +3,6 @@ use Rattle.std.proofs.Common.{◌≡◌, ℕ, ◌<◌, List, [], ◌∷◌, leng
 use Rattle.std.proofs.lemmas.Option.{slice_get_within}
 use Rattle.sx_kinds.specs.declared.constructs.ConstructKind.TheVariants as kind
 use Rattle.sx_kinds.specs.declared.constructs.Instr.{Instr}
-use Rattle.sx_kinds.specs.declared.constructs.Instr.TheViews.{roll-Instr}
 use Rattle.sx_kinds.specs.declared.constructs.Instr.TheFolds.{fold-roll-Instr}
 use Rattle.sx_kinds.specs.declared.constructs.InstrForm.TheVariants as form
 use Rattle.sx_kinds.specs.declared.sheets.Sheet.{Sheet}
@@ -12,7 +11,7 @@ use Rattle.sx_sheet.specs.Lines.{lines_in}
 use Rattle.sx_sheet.specs.Syntax as syntax
 use Rattle.sx_sheet.specs.Syntax.{TemplateSyntax, AllBody, AllTemplates, said}
 use Rattle.sx_sheet.specs.Numbers.{Reads, IsKnown, literal_instr, text_instr, apply_instr, label_of, next_construct, instrs_of, templates_of, past, past_template, past_head, opened, passed, passed_all, entered}
-use Rattle.sx_machine.specs.Body.{Body, nil, literal, words, apply, body_of, instr_in_front, layer, culprit, IsKnownBody, AreKnown}
+use Rattle.sx_machine.specs.Body.{Body, literal, words, apply, body_of, instr_in_front, layer, culprit, IsKnownBody, AreKnown}
 use Rattle.sx_machine.specs.Session.{IsReady}
 use Rattle.sx_machine.proofs.Rules.{joined_is}
 

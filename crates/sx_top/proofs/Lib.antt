@@ -5,6 +5,7 @@ pub mod Copies
 pub mod Courses
 pub mod Frames
 pub mod Growth
+pub mod Loadings
 pub mod Marks
 pub mod Printings
 pub mod Programs

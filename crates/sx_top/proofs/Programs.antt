@@ -17,7 +17,7 @@ get_last [] name = refl
 get_last (n ∷ ns) name = get_last ns name
 
 -- a file that was opened has the bytes of its name
-opened_bytes : (name : List ℕ) (old mid : Seen) (file : ℕ) → Opens name old mid (Ok file) → IsTrue mid.told → bytes_of mid file ≡ unwrap_or (old.content name) []
+pub opened_bytes : (name : List ℕ) (old mid : Seen) (file : ℕ) → Opens name old mid (Ok file) → IsTrue mid.told → bytes_of mid file ≡ unwrap_or (old.content name) []
 opened_bytes name old mid file opens t =
     let x = opens.told t in
     let number : file ≡ length old.opened = opens.number in

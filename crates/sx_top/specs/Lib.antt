@@ -3,6 +3,7 @@ pub mod Copier
 pub mod Copy
 pub mod Frame
 pub mod Headline
+pub mod Loading
 pub mod Program
 pub mod Stylesheet
 pub mod Taking

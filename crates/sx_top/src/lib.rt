@@ -3,6 +3,7 @@
 
 mod consumer;
 mod copier;
+mod loading;
 mod printer;
 mod program;
 mod reading;
