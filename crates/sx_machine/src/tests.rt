@@ -1,4 +1,4 @@
-// Sessions, and what is given at each step.
+// A session of a stylesheet, and what is given at each step.
 use crate::{Session, State, Step};
 use sqlite_items::Items;
 use std::alloc::{AllocError, Global};
@@ -25,15 +25,15 @@ fn label(alloc: Global, names: &mut Names, name: &str) -> Result<Label, AllocErr
     })
 }
 
-fn literal(label: Label, body: Body) -> Instr {
-    Instr {
-        construct: construct(ConstructKind::Literal),
-        form: InstrForm::Literal { label },
-        body,
+// An application of templates where the text is empty, else the text.
+fn part(alloc: Global, text: &str) -> Result<Instr, AllocError> {
+    if text.is_empty() {
+        return Ok(Instr {
+            construct: construct(ConstructKind::ApplyTemplates),
+            form: InstrForm::ApplyTemplates,
+            body: Items::new(alloc),
+        });
     }
-}
-
-fn words(alloc: Global, text: &str) -> Result<Instr, AllocError> {
     Ok(Instr {
         construct: construct(ConstructKind::Text),
         form: InstrForm::Text(Chars::copy(alloc, text)?),
@@ -41,14 +41,31 @@ fn words(alloc: Global, text: &str) -> Result<Instr, AllocError> {
     })
 }
 
-fn apply(alloc: Global) -> Instr {
-    Instr {
-        construct: construct(ConstructKind::ApplyTemplates),
-        form: InstrForm::ApplyTemplates,
-        body: Items::new(alloc),
+fn parts(alloc: Global, texts: &[&str]) -> Result<Body, AllocError> {
+    let mut body = Items::new(alloc);
+    for text in texts {
+        body.push(part(alloc, text)?)?;
     }
+    Ok(body)
 }
 
+// An element with these parts.
+fn literal(
+    alloc: Global,
+    names: &mut Names,
+    name: &str,
+    texts: &[&str],
+) -> Result<Instr, AllocError> {
+    Ok(Instr {
+        construct: construct(ConstructKind::Literal),
+        form: InstrForm::Literal {
+            label: label(alloc, names, name)?,
+        },
+        body: parts(alloc, texts)?,
+    })
+}
+
+// A template for the elements of a name, with these instructions.
 fn template(names: &mut Names, name: &str, body: Body) -> Result<Template, AllocError> {
     Ok(Template {
         construct: construct(ConstructKind::Template),
@@ -60,23 +77,33 @@ fn template(names: &mut Names, name: &str, body: Body) -> Result<Template, Alloc
     })
 }
 
-// Two templates for a, of which the second puts its content between texts in an element; and one for b that gives a text.
-fn sheet(alloc: Global, names: &mut Names) -> Result<Sheet, AllocError> {
+fn one_literal(
+    alloc: Global,
+    names: &mut Names,
+    name: &str,
+    texts: &[&str],
+) -> Result<Body, AllocError> {
+    let mut body = Items::new(alloc);
+    body.push(literal(alloc, names, name, texts)?)?;
+    Ok(body)
+}
+
+// Two templates for a, of which the second asks for the children; and one for b, which does not.
+fn templates(alloc: Global, names: &mut Names) -> Result<Items<Template>, AllocError> {
+    let rows: [(&str, &str, &[&str]); 3] = [
+        ("a", "first", &["not this one"]),
+        ("a", "out", &["before ", "", " behind"]),
+        ("b", "in", &["of b"]),
+    ];
     let mut templates = Items::new(alloc);
-    let mut first = Items::new(alloc);
-    first.push(words(alloc, "not this one")?)?;
-    templates.push(template(names, "a", first)?)?;
-    let mut inner = Items::new(alloc);
-    inner.push(words(alloc, "before ")?)?;
-    inner.push(apply(alloc))?;
-    inner.push(words(alloc, " behind")?)?;
-    let mut second = Items::new(alloc);
-    second.push(literal(label(alloc, names, "out")?, inner))?;
-    second.push(words(alloc, "!")?)?;
-    templates.push(template(names, "a", second)?)?;
-    let mut third = Items::new(alloc);
-    third.push(words(alloc, "b")?)?;
-    templates.push(template(names, "b", third)?)?;
+    for (name, element, texts) in rows {
+        let body = one_literal(alloc, names, element, texts)?;
+        templates.push(template(names, name, body)?)?;
+    }
+    Ok(templates)
+}
+
+fn sheet(alloc: Global, names: &mut Names) -> Result<Sheet, AllocError> {
     let mut modes = Items::new(alloc);
     modes.push(Mode {
         name: None,
@@ -86,102 +113,103 @@ fn sheet(alloc: Global, names: &mut Names) -> Result<Sheet, AllocError> {
     })?;
     Ok(Sheet {
         modes,
-        templates,
+        templates: templates(alloc, names)?,
         constructs: 12,
     })
 }
 
-// What is given when an event comes, each built event printed by itself.
+fn started(alloc: Global, names: &mut Names) -> Result<Session, AllocError> {
+    let sheet = sheet(alloc, names)?;
+    Session::start(alloc, sheet, names)
+}
+
+// A line as ESIS has it: an element starts, a text comes, or an element ends.
+fn event(alloc: Global, names: &mut Names, line: &str) -> Result<Event, AllocError> {
+    if let Some(name) = line.strip_prefix("(") {
+        return Ok(Event::Start {
+            label: label(alloc, names, name)?,
+            attrs: Items::new(alloc),
+            spaces: Items::new(alloc),
+        });
+    }
+    match line.strip_prefix("-") {
+        Some(text) => Ok(Event::Text(Chars::copy(alloc, text)?)),
+        None => Ok(Event::End),
+    }
+}
+
+// What is answered to a line.
 fn feed(
     alloc: Global,
     session: &mut Session,
     names: &mut Names,
-    event: Event,
-) -> Result<String, AllocError> {
+    line: &str,
+) -> Result<Step, AllocError> {
+    let event = event(alloc, names, line)?;
+    session.feed(event, names)
+}
+
+// What is given, each built event printed by itself.
+fn given(alloc: Global, session: &mut Session) -> Result<Vec<u8>, AllocError> {
     let mut bytes = Vec::new(alloc);
-    session.feed(event, names)?;
     for event in session.take_output().as_slice() {
         append(&mut bytes, false, event)?;
     }
-    String::from_str(alloc, str::from_utf8(&bytes).unwrap_or("?"))
+    Ok(bytes)
 }
 
-// What is given when an element starts.
-fn start(
+// Whether this is what a line gives.
+fn gives(
     alloc: Global,
     session: &mut Session,
     names: &mut Names,
-    name: &str,
-) -> Result<String, AllocError> {
-    let event = Event::Start {
-        label: label(alloc, names, name)?,
-        attrs: Items::new(alloc),
-        spaces: Items::new(alloc),
-    };
-    feed(alloc, session, names, event)
+    line: &str,
+    expected: &str,
+) -> Result<bool, AllocError> {
+    feed(alloc, session, names, line)?;
+    let bytes = given(alloc, session)?;
+    Ok(bytes.as_slice() == expected.as_bytes())
 }
 
-// What is given when a text comes.
-fn text(
+// The place of the first row whose line gives something else than stands beside it.
+fn differs(
     alloc: Global,
     session: &mut Session,
     names: &mut Names,
-    text: &str,
-) -> Result<String, AllocError> {
-    let event = Event::Text(Chars::copy(alloc, text)?);
-    feed(alloc, session, names, event)
+    rows: &[(&str, &str)],
+) -> Result<Option<usize>, AllocError> {
+    for (place, (line, expected)) in rows.iter().enumerate() {
+        if !gives(alloc, session, names, line, expected)? {
+            return Ok(Some(place));
+        }
+    }
+    Ok(None)
 }
 
-// What is given when an element ends.
-fn end(alloc: Global, session: &mut Session, names: &mut Names) -> Result<String, AllocError> {
-    feed(alloc, session, names, Event::End)
-}
+// No template matches r: the built-in one gives nothing itself and copies the text. Of the templates for a the last is
+// chosen, and gives what stands behind the application at the end. The one for b asks for no children: they are skipped.
+const RUN: &[(&str, &str)] = &[
+    ("(r", ""),
+    ("-x", "-x"),
+    ("(a", "(out\n-before "),
+    ("-y", "-y"),
+    (")a", "- behind)out\n"),
+    ("(b", "(in\n-of b)in\n"),
+    ("-z", ""),
+    ("(a", ""),
+    (")a", ""),
+    (")b", ""),
+    (")r", ""),
+];
 
 #[test]
 fn a_template_runs_round_the_children(rt: HostRuntime) -> Result<(), AllocError> {
     let alloc = rt.alloc();
     let mut names = sx_names::new(alloc);
-    let mut session = Session::start(alloc, sheet(alloc, &mut names)?, &names)?;
-    let (s, n) = (&mut session, &mut names);
-    // No template: the built-in one gives nothing itself, and copies a text.
-    assert_eq!(rt; start(alloc, s, n, "r")?.as_str(), "");
-    assert_eq!(rt; text(alloc, s, n, "x")?.as_str(), "-x");
-    // The last template of a: what stands before its children, and, at its end, behind them.
-    assert_eq!(rt; start(alloc, s, n, "a")?.as_str(), "(out\n-before ");
-    assert_eq!(rt; text(alloc, s, n, "y")?.as_str(), "-y");
-    assert_eq!(rt; end(alloc, s, n)?.as_str(), "- behind)out\n-!");
-    assert_eq!(rt; end(alloc, s, n)?.as_str(), "");
-    let step = session.finish(&mut names)?;
-    assert_eq!(rt; step, Step::Going);
+    let mut session = started(alloc, &mut names)?;
+    assert_eq!(rt; differs(alloc, &mut session, &mut names, RUN)?, None);
+    assert!(rt; session.finish(&mut names)? == Step::Going);
     assert_eq!(rt; session.state(), State::Closed);
-    Ok(())
-}
-
-#[test]
-fn children_that_no_template_asks_for_are_skipped(rt: HostRuntime) -> Result<(), AllocError> {
-    let alloc = rt.alloc();
-    let mut names = sx_names::new(alloc);
-    let mut session = Session::start(alloc, sheet(alloc, &mut names)?, &names)?;
-    let (s, n) = (&mut session, &mut names);
-    assert_eq!(rt; start(alloc, s, n, "b")?.as_str(), "-b");
-    assert_eq!(rt; text(alloc, s, n, "dropped")?.as_str(), "");
-    assert_eq!(rt; start(alloc, s, n, "a")?.as_str(), "");
-    assert_eq!(rt; end(alloc, s, n)?.as_str(), "");
-    assert_eq!(rt; end(alloc, s, n)?.as_str(), "");
-    assert_eq!(rt; session.state(), State::Going);
-    Ok(())
-}
-
-// As many elements start, one in another.
-fn nest(
-    alloc: Global,
-    session: &mut Session,
-    names: &mut Names,
-    count: u32,
-) -> Result<(), AllocError> {
-    for _ in 0..count {
-        start(alloc, session, names, "r")?;
-    }
     Ok(())
 }
 
@@ -189,12 +217,12 @@ fn nest(
 fn the_257th_open_invocation_is_an_error(rt: HostRuntime) -> Result<(), AllocError> {
     let alloc = rt.alloc();
     let mut names = sx_names::new(alloc);
-    let mut session = Session::start(alloc, sheet(alloc, &mut names)?, &names)?;
-    nest(alloc, &mut session, &mut names, 255)?;
-    assert_eq!(rt; session.state(), State::Going);
-    nest(alloc, &mut session, &mut names, 1)?;
+    let mut session = started(alloc, &mut names)?;
+    for count in 1..258_u32 {
+        let step = feed(alloc, &mut session, &mut names, "(r")?;
+        let open = count < 256;
+        assert!(rt; (step == Step::Going) == open, "{count}");
+    }
     assert_eq!(rt; session.state(), State::Stopped(Code::Sxli0001));
-    let step = session.feed(Event::End, &mut names)?;
-    assert_eq!(rt; step, Step::Stopped(Code::Sxli0001));
     Ok(())
 }
