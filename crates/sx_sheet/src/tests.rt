@@ -1,5 +1,5 @@
 // Thin stylesheets as files.
-use crate::{StaticFault, ThinFault, read_thin};
+use crate::{SheetBytes, StaticFault, ThinFault, read_thin};
 use std::alloc::{AllocError, Global};
 use sx_atoms::Code;
 use sx_kinds::{ConstructKind, Instr, InstrForm, Sheet};
@@ -84,5 +84,24 @@ fn a_fault_has_its_line(rt: HostRuntime) -> Result<(), AllocError> {
     }
     let empty = read_thin(rt.alloc(), b"", &mut names)?;
     assert!(rt; empty.err() == broken(1));
+    Ok(())
+}
+
+#[test]
+fn bytes_are_refused_as_soon_as_a_line_ends(rt: HostRuntime) -> Result<(), AllocError> {
+    let cases: [(&[u8], &[u8], bool, bool); 4] = [
+        (b"(a\n-", b"s\n", false, false),
+        (b"(a\n(a.", b"b", false, true),
+        (b"(a.b", b"\nC", true, true),
+        (b"", b"", false, false),
+    ];
+    for (first, second, at_once, at_end) in cases {
+        let mut bytes = SheetBytes::new(rt.alloc());
+        bytes.feed(first)?;
+        bytes.feed(second)?;
+        assert_eq!(rt; bytes.is_refused(), at_once);
+        bytes.finish();
+        assert_eq!(rt; bytes.is_refused(), at_end);
+    }
     Ok(())
 }
