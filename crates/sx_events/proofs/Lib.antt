@@ -1,6 +1,11 @@
 pub mod Courses
 pub mod Documents
+pub mod Endings
+pub mod Feedings
 pub mod Lines
 pub mod Nestings
+pub mod Pendings
 pub mod Reach
+pub mod Readings
 pub mod Stages
+pub mod Takings

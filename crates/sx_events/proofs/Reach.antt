@@ -9,7 +9,7 @@ use Rattle.sx_events.specs.Form.{Limits, document_of, is_whole, fitting, all_fit
 use Rattle.sx_events.proofs.Courses.{all_fit-append, fitting-all, fitting-broken, some_cause, no_cause, cause_first, cause_second, cause_third, no_causes, last_cause}
 
 -- bytes within the limit, and more
-take_more : (n : ℕ) (b d : List ℕ) → length b ≤ n → take n (b ++ d) ≡ b ++ take (n - length b) d
+pub take_more : (n : ℕ) (b d : List ℕ) → length b ≤ n → take n (b ++ d) ≡ b ++ take (n - length b) d
 take_more n b d le = ap (λ (k : ℕ). take k (b ++ d)) (sum n (length b) le) ∙ take-append-add b d (n - length b)
   where
     sum : (n k : ℕ) → k ≤ n → n ≡ k + (n - k)
@@ -23,7 +23,7 @@ has_none : (o : Option ℕ) → is_some o ≡ false → o ≡ None
 has_none None h = refl
 has_none (Some n) h = absurd (false≢true (sym h))
 
-not_none : (o : Option ℕ) → o ≢ None → is_some o ≡ true
+pub not_none : (o : Option ℕ) → o ≢ None → is_some o ≡ true
 not_none None h = absurd (h refl)
 not_none (Some n) h = refl
 
@@ -51,10 +51,10 @@ Broken limits b ended = (course_of limits b ended).broken ≡ true
 abbrev pub StaysBroken : Limits → List ℕ → List ℕ → Bool → Type 0
 StaysBroken limits b d ended = Broken limits (b ++ d) ended × ((course_of limits (b ++ d) ended).lines ≡ (course_of limits b false).lines)
 
-at_fit : (limits : Limits) (b : List ℕ) (ended : Bool) → all_fit limits.depth [] (reads limits b ended).lines ≡ false → Broken limits b ended
+pub at_fit : (limits : Limits) (b : List ℕ) (ended : Bool) → all_fit limits.depth [] (reads limits b ended).lines ≡ false → Broken limits b ended
 at_fit limits b ended h = cause_first _ _ _ _ h
 
-at_fault : (limits : Limits) (b : List ℕ) (ended : Bool) → is_some (reads limits b ended).fault ≡ true → Broken limits b ended
+pub at_fault : (limits : Limits) (b : List ℕ) (ended : Bool) → is_some (reads limits b ended).fault ≡ true → Broken limits b ended
 at_fault limits b ended h = cause_second (all_fit limits.depth [] (reads limits b ended).lines) _ _ _ h
 
 pub at_limit : (limits : Limits) (b : List ℕ) (ended : Bool) → ltb limits.bytes (length b) ≡ true → Broken limits b ended

@@ -85,7 +85,7 @@ some_open f es e is = by (has_open f) refl
     by false h = absurd (not_empty es e (sym is ∙ none_open f h))
 
 -- the last happening of one line more
-text-snoc : (p : List Line) (l : Line) (h : Happening (List ℕ)) → happening l ≡ h ∷ [] → text_is_last (happenings (p ++ l ∷ [])) ≡ text_is_last (h ∷ [])
+pub text-snoc : (p : List Line) (l : Line) (h : Happening (List ℕ)) → happening l ≡ h ∷ [] → text_is_last (happenings (p ++ l ∷ [])) ≡ text_is_last (h ∷ [])
 text-snoc p l h is =
     ap text_is_last (happenings-snoc p l ∙ ap (λ (hs : List (Happening (List ℕ))). happenings p ++ hs) is)
     ∙ ends_in_text-snoc (happenings p) h
