@@ -7,8 +7,13 @@ pub mod Frames
 pub mod Growth
 pub mod Loadings
 pub mod Marks
+pub mod Openings
 pub mod Printings
 pub mod Programs
+pub mod Pumps
+pub mod Runners
+pub mod Running
+pub mod Runs
 pub mod Stylesheets
 pub mod Takings
 pub mod Turns

@@ -1,12 +1,18 @@
--- From the name of a stylesheet to the stylesheet.
+-- From the name of a stylesheet to its run.
 use Rattle.std.proofs.Common.{◌≡◌, inl, inr, ℕ, List, [], Option, Some, None, unwrap_or, IsSome, Result, Ok, Err, refl, ap, sym, ◌∙◌}
 use Rattle.std.specs.Global.{Vec}
 use Rattle.sx_desk.specs.Desk.{Seen, Opens}
 use Rattle.sx_kinds.specs.declared.sheets.Sheet.{Sheet}
-use Rattle.sx_top.specs.Loading.{Judged, Loads, NotLoaded, ReadWhole}
+use Rattle.sx_machine.specs.Session.{IsReady}
+use Rattle.sx_top.specs.Commands.{RunsSheet}
+use Rattle.sx_events.specs.Form.{stated}
+use Rattle.sx_top.specs.Loading.{Judged, Loads, Loaded, NotLoaded, ReadWhole}
+use Rattle.sx_top.specs.Program.{Headline}
+use Rattle.sx_top.specs.Run.{run_written, run_outcome}
 use Rattle.sx_top.specs.Stylesheet.{nothing_written, sheet_outcome, ReadsSheet}
 use Rattle.sx_top.specs.declared.status.Status.{Status}
 use Rattle.sx_top.specs.declared.status.Status.TheVariants as status
+use Rattle.sx_top.proofs.Accepting.{accepted_ready}
 use Rattle.sx_top.proofs.Programs.{opened_bytes, run_of}
 
 -- what is there is what stands for it
@@ -32,3 +38,14 @@ unread_of name old mid new file s opens reads = inl (record { not_ok = reads.fai
 pub loads_of : (name bytes : List ℕ) (names : List (List ℕ × List ℕ)) (old new : Seen) (r : Result Sheet Status) → ReadWhole name old new bytes → Judged bytes names r → Loads name names old new r
 loads_of name bytes names old new (Ok sheet) read judged = record { bytes = bytes; read = read; accepted = judged }
 loads_of name bytes names old new (Err s) read judged = inr (record { bytes = bytes; read = read; rejects = judged })
+
+-- a stylesheet that was loaded was run
+pub runs_loaded : (sheet_name document_name : List ℕ) (names : List (List ℕ × List ℕ)) (sheet : Sheet) (old mid new : Seen) (s : Status) → Loaded sheet_name old mid names sheet →
+    (IsReady sheet names → Headline (run_written sheet names stated) (run_outcome sheet names stated) document_name mid new s) → RunsSheet sheet_name document_name old new s
+runs_loaded sheet_name document_name names sheet old mid new s loaded ran = inr (record {
+  mid = mid;
+  names = names;
+  sheet = sheet;
+  loaded = loaded;
+  ran = ran (accepted_ready loaded.bytes names sheet loaded.accepted.reads loaded.accepted.streamable);
+})

@@ -7,7 +7,11 @@ use Rattle.sx_top.specs.Frame.{Sends}
 use Rattle.sx_top.specs.Headline.{RiseTo, HasMark, MarksStand, Answers, Transforms, ToldEnd}
 use Rattle.sx_top.specs.Copy.{copy_written, copy_outcome}
 use Rattle.sx_events.specs.Form.{stated}
-use Rattle.sx_top.specs.Program.{Runs, Says, IsQuiet, Untouched, Ran, Opened, OpensOrNot, Headline}
+use Rattle.sx_top.specs.Commands.{Does, Runs}
+use Rattle.sx_top.specs.Run.{run_written, run_outcome}
+use Rattle.sx_top.specs.Stylesheet.{nothing_written, sheet_outcome}
+use Rattle.sx_top.specs.Words.{Asked, copies, runs}
+use Rattle.sx_top.specs.Program.{Says, IsQuiet, Untouched, Ran, Opened, OpensOrNot, Headline}
 use Rattle.sx_top.specs.declared.consumer.Outcome.{Outcome}
 use Rattle.sx_top.specs.declared.status.Status.{Status}
 use Rattle.sx_top.specs.declared.status.Status.TheVariants as status
@@ -217,23 +221,40 @@ module _ (written : List ℕ → Bool → List ℕ) (outcome : List ℕ → Bool
         };
   }
 
-  -- and so does the diagnostic line
-  pub said_after : (name line : List ℕ) (old mid new : Seen) (s : Status) (r : Result (Unit {0}) Failed) → Headline written outcome name old mid s → Sends out.Diagnostic line mid new r → Headline written outcome name old new s
-  said_after name line old mid new s r run sends = untouched_then name old mid new s run (untouched_after line mid new r sends)
+-- what touches no file and not the result leaves what a command does
+does_then : (a : Asked) (old mid new : Seen) (s : Status) → Does a old mid s → Untouched mid new → Does a old new s
+does_then (copies document) old mid new s done u = untouched_then (copy_written stated) (copy_outcome stated) document old mid new s done u
+does_then (runs sheet document) old mid new s (inl (inl x)) u = inl (inl (record { not_ok = x.not_ok; run = untouched_then nothing_written sheet_outcome sheet old mid new s x.run u }))
+does_then (runs sheet document) old mid new s (inl (inr x)) u = inl (inr (record {
+  bytes = x.bytes;
+  read = record {
+    run = untouched_then nothing_written sheet_outcome sheet old mid new status.Ok x.read.run u;
+    readable = x.read.readable;
+    content = λ t. x.read.content (u.known.told t);
+  };
+  rejects = x.rejects;
+}))
+does_then (runs sheet document) old mid new s (inr x) u = inr (record {
+  mid = x.mid;
+  names = x.names;
+  sheet = x.sheet;
+  loaded = x.loaded;
+  ran = untouched_then (run_written x.sheet x.names stated) (run_outcome x.sheet x.names stated) document x.mid mid new s x.ran u;
+})
 
 -- what the words ask for was done, and the line was sent
-pub runs_copy : (asked : Option (List ℕ)) (name line : List ℕ) (old done mid new : Seen) (s s' : Status) (r : Result (Unit {0}) Failed) → Some name ≡ asked → mid ≡ done → s' ≡ s →
-    Headline (copy_written stated) (copy_outcome stated) name old done s → Sends out.Diagnostic line mid new r → Runs asked old new s'
-runs_copy asked name line old done mid new s s' r is same_desk same_status run sends =
-    subst (λ (o : Option (List ℕ)). Runs o old new s') is
-    (subst (λ (x : Status). Headline (copy_written stated) (copy_outcome stated) name old new x) (sym same_status)
-    (said_after (copy_written stated) (copy_outcome stated) name line old done new s r run (subst (λ (x : Seen). Sends out.Diagnostic line x new r) same_desk sends)))
+pub runs_command : (o : Option Asked) (a : Asked) (line : List ℕ) (old done mid new : Seen) (s s' : Status) (r : Result (Unit {0}) Failed) → Some a ≡ o → mid ≡ done → s' ≡ s →
+    Does a old done s → Sends out.Diagnostic line mid new r → Runs o old new s'
+runs_command o a line old done mid new s s' r is same_desk same_status does sends =
+    subst (λ (o : Option Asked). Runs o old new s') is
+    (subst (λ (x : Status). Does a old new x) (sym same_status)
+    (does_then a old done new s does (untouched_after line done new r (subst (λ (x : Seen). Sends out.Diagnostic line x new r) same_desk sends))))
 
 -- the words ask for nothing, and the line was sent
-pub runs_nothing : (asked : Option (List ℕ)) (line : List ℕ) (old mid new : Seen) (s : Status) (r : Result (Unit {0}) Failed) → None ≡ asked → mid ≡ old → s ≡ status.Usage →
-    Sends out.Diagnostic line mid new r → Runs asked old new s
-runs_nothing asked line old mid new s r is same_desk usage sends =
-    subst (λ (o : Option (List ℕ)). Runs o old new s) is (usage, untouched_after line old new r (subst (λ (x : Seen). Sends out.Diagnostic line x new r) same_desk sends))
+pub runs_nothing : (o : Option Asked) (line : List ℕ) (old mid new : Seen) (s : Status) (r : Result (Unit {0}) Failed) → None ≡ o → mid ≡ old → s ≡ status.Usage →
+    Sends out.Diagnostic line mid new r → Runs o old new s
+runs_nothing o line old mid new s r is same_desk usage sends =
+    subst (λ (o : Option Asked). Runs o old new s) is (usage, untouched_after line old new r (subst (λ (x : Seen). Sends out.Diagnostic line x new r) same_desk sends))
 
 -- this line was sent where the diagnostic output was as before
 pub says_line : (line line' : List ℕ) (old done mid new : Seen) (r : Result (Unit {0}) Failed) → line ≡ line' → mid ≡ done → IsQuiet old done → Sends out.Diagnostic line mid new r → Says line' old new

@@ -26,7 +26,8 @@ pub record IsRoaming (bytes : List ℕ) (line : ℕ) : Type 0 where
   pub reads : Reads (lines_in bytes) names sheet
   pub culprit_is : culprit sheet.templates ≡ Some line
 
--- the stylesheet has this error on this line: it breaks off there (XSLT 3.0, 3.6), or cannot be streamed (19.8.3)
+-- the stylesheet has this error on this line: its lines break off there (XTSE0010), or of the element that starts there
+-- two parts consume, so that it cannot be streamed (XTSE3430; XSLT 3.0, 19.8.3)
 abbrev pub IsStaticFault : List ℕ → Code → ℕ → Type 0
 IsStaticFault bytes code line = ((code ≡ Xtse0010) × BreaksAt (lines_in bytes) line) ⊎ ((code ≡ Xtse3430) × IsRoaming bytes line)
 

@@ -1,9 +1,7 @@
 -- What a call of the whole program does to a desk.
-use Rattle.std.specs.Prelude.{◌≡◌, ◌≢◌, ◌⊎◌, ◌↔◌, ℕ, suc, ◌+◌, ◌<◌, ◌≤◌, Bool, IsTrue, List, [], ◌∷◌, ◌++◌, length, take, Option, Some, None, unwrap_or, IsSome}
+use Rattle.std.specs.Prelude.{◌≡◌, ◌≢◌, ◌⊎◌, ◌↔◌, ℕ, suc, ◌+◌, ◌<◌, ◌≤◌, Bool, IsTrue, List, [], ◌∷◌, ◌++◌, length, take, Option, unwrap_or, IsSome}
 use Rattle.sx_desk.specs.Desk.{Seen, Rose, StaysKnown}
 use Rattle.sx_desk.specs.declared.desk.Out.TheVariants as out
-use Rattle.sx_top.specs.Copy.{copy_written, copy_outcome}
-use Rattle.sx_events.specs.Form.{stated}
 use Rattle.sx_top.specs.Headline.{BeginsWith, RiseTo, HasMark, MarksStand, Answers}
 use Rattle.sx_top.specs.declared.consumer.Outcome.{Outcome}
 use Rattle.sx_top.specs.declared.status.Status.{Status}
@@ -95,8 +93,3 @@ module _ (written : List ℕ → Bool → List ℕ) (outcome : List ℕ → Bool
     pub write_fault : s ≡ status.WriteFault → Rose (old.write_faults out.Result) (new.write_faults out.Result)
     pub count : (s ≢ status.OpenFault → length new.opened ≡ length old.opened + 1) × (s ≡ status.OpenFault → length new.opened ≡ length old.opened)
     pub told : IsTrue new.told → ToldRun name old new s
-
--- What the program does for the document that the words ask for, or for words that ask for nothing.
-abbrev pub Runs : Option (List ℕ) → Seen → Seen → Status → Type 0
-Runs None old new s = (s ≡ status.Usage) × Untouched old new
-Runs (Some name) old new s = Headline (copy_written stated) (copy_outcome stated) name old new s

@@ -1,15 +1,22 @@
 -- What the words of the command line ask for.
 use Rattle.std.specs.Prelude.{ℕ, List, [], ◌∷◌, Option, Some, None, bytes_eq, codes, if◌then◌else◌}
 use Rattle.sx_top.specs.declared.words.Command.{Command}
-use Rattle.sx_top.specs.declared.words.Command.TheVariants.{Copy}
+use Rattle.sx_top.specs.declared.words.Command.TheVariants as command
 
--- the name of the document that a command reads
-abbrev pub document_named : Command → List ℕ
-document_named (Copy name) = name.now
+-- a copy of the document of a name; or a run of the stylesheet of a name on the document of a name
+pub data Asked : Type 0 where
+  copies : List ℕ → Asked
+  runs : List ℕ → List ℕ → Asked
 
--- The words `copy` and a name ask for the document of that name. There is no other command.
-abbrev pub document_asked : List (List ℕ) → Option (List ℕ)
-document_asked [] = None
-document_asked (command ∷ []) = None
-document_asked (command ∷ name ∷ []) = if bytes_eq command (codes "copy") then Some name else None
-document_asked (command ∷ name ∷ more ∷ words) = None
+-- what a command asks for
+abbrev pub asked_of : Command → Asked
+asked_of (command.Copy document) = copies document.now
+asked_of (command.Run sheet document) = runs sheet.now document.now
+
+-- The words `copy` and a name ask for a copy, and `run` and two names for a run. There is no other command.
+abbrev pub asked : List (List ℕ) → Option Asked
+asked [] = None
+asked (word ∷ []) = None
+asked (word ∷ document ∷ []) = if bytes_eq word (codes "copy") then Some (copies document) else None
+asked (word ∷ sheet ∷ document ∷ []) = if bytes_eq word (codes "run") then Some (runs sheet document) else None
+asked (word ∷ sheet ∷ document ∷ more ∷ words) = None

@@ -7,11 +7,17 @@ mod loading;
 mod printer;
 mod program;
 mod reading;
+mod runner;
 mod send;
 mod status;
 mod stylesheet;
 #[cfg(test)]
 mod tests;
+#[cfg(test)]
+mod tests_run;
+#[cfg(test)]
+mod tests_sizes;
+mod transformation;
 mod words;
 
 /// Laws over the definitions, each the contract of a function that does nothing.
@@ -21,4 +27,5 @@ pub use consumer::{Consumer, Outcome};
 pub use program::top;
 pub use reading::transfer;
 pub use status::{DiagnosticLine, Input, Status};
+pub use transformation::transform;
 pub use words::{Command, parse_words};

@@ -1,5 +1,5 @@
-use Rattle.std.proofs.Common.{ℕ, List, Some, ap, ◌∙◌}
-use Rattle.sx_top.proofs.Programs.{quiet_same, runs_copy, runs_nothing, says_line}
+use Rattle.std.proofs.Common.{ap, ◌∙◌}
+use Rattle.sx_top.proofs.Programs.{quiet_same, runs_command, runs_nothing, says_line}
 use Rattle.sx_top.proofs.program.top.Goals as goal
 use Rattle.sx_top.proofs.program.top.Goals.{in-Some, in-None}
 
@@ -9,8 +9,8 @@ returns-clause-runs g c =
     let mid = g.D.Desk.seen c.match-parse_words.desk in
     let new = g.D.Desk.seen c.write_all.new.desk in
     elim c.match-parse_words.branch [
-      | in-Some w ↦ runs_copy _ w.document.result.now c.as_slice.result.now old (g.D.Desk.seen w.copy-status.new.desk) mid new w.copy-status.result c.match-parse_words.status c.write_all.result
-          (ap (λ (n : List ℕ). Some n) w.document.ensures ∙ w.in-Some.ensures) (ap g.D.Desk.seen w.desk-is) w.status-is w.copy-status.ensures.headline c.write_all.ensures
+      | in-Some w ↦ runs_command _ _ c.as_slice.result.now old (g.D.Desk.seen w.carry_out-status.new.desk) mid new w.carry_out-status.result c.match-parse_words.status c.write_all.result
+          w.in-Some.ensures (ap g.D.Desk.seen w.desk-is) w.status-is w.carry_out-status.ensures.does c.write_all.ensures
       | in-None w ↦ runs_nothing _ c.as_slice.result.now old mid new c.match-parse_words.status c.write_all.result
           w.in-None.ensures (ap g.D.Desk.seen w.desk-is) w.status-is c.write_all.ensures
     ]
@@ -21,6 +21,6 @@ returns-clause-says g c =
     let mid = g.D.Desk.seen c.match-parse_words.desk in
     let new = g.D.Desk.seen c.write_all.new.desk in
     elim c.match-parse_words.branch [
-      | in-Some w ↦ says_line c.as_slice.result.now _ old (g.D.Desk.seen w.copy-status.new.desk) mid new c.write_all.result (c.as_slice.ensures.value ∙ c.diagnostic.ensures) (ap g.D.Desk.seen w.desk-is) w.copy-status.ensures.quiet c.write_all.ensures
+      | in-Some w ↦ says_line c.as_slice.result.now _ old (g.D.Desk.seen w.carry_out-status.new.desk) mid new c.write_all.result (c.as_slice.ensures.value ∙ c.diagnostic.ensures) (ap g.D.Desk.seen w.desk-is) w.carry_out-status.ensures.quiet c.write_all.ensures
       | in-None w ↦ says_line c.as_slice.result.now _ old old mid new c.write_all.result (c.as_slice.ensures.value ∙ c.diagnostic.ensures) (ap g.D.Desk.seen w.desk-is) (quiet_same old) c.write_all.ensures
     ]

@@ -1,0 +1,15 @@
+use Rattle.std.proofs.Common.{List, ℕ, Bool}
+use Rattle.sx_events.specs.Reader.{left}
+use Rattle.sx_kinds.specs.declared.sheets.Sheet.{Sheet}
+use Rattle.sx_machine.specs.Session.{IsReady}
+use Rattle.sx_names.specs.Numbering.{KeepsPlaces}
+use Rattle.sx_top.specs.Runner.{Fed}
+use Rattle.sx_top.proofs.runner.Runner.take_events.Given as goal
+
+abbrev pub invariant-events : goal.invariant-events
+invariant-events l =
+    KeepsPlaces l.fn.self.names l.self.names
+    × ((sheet : Sheet) (known : List (List ℕ × List ℕ)) (b w : List ℕ) (ended : Bool) → IsReady sheet known → Fed sheet known l.fn.self b ended w → Fed sheet known l.self b ended w)
+
+abbrev pub decreases-events : goal.decreases-events
+decreases-events l = left l.self.reader

@@ -1,0 +1,54 @@
+// A document transformed by a stylesheet.
+ghost use Rattle.std.specs.Prelude.{◌≡◌, ◌<◌, [], IsTrue, IfOk, length};
+ghost use Rattle.sx_desk.specs.declared.desk.Out.TheVariants as out;
+ghost use Rattle.sx_events.specs.Form.{stated};
+ghost use Rattle.sx_machine.specs.Session.{IsReady, Stands};
+ghost use Rattle.sx_names.specs.Numbering.{KeepsPlaces};
+ghost use Rattle.sx_top.specs.Frame.{Frame};
+ghost use Rattle.sx_top.specs.Headline.{Transforms};
+ghost use Rattle.sx_top.specs.Run.{run_written, run_outcome};
+
+use crate::runner::Runner;
+use crate::{Status, transfer};
+use std::alloc::{AllocError, Global};
+use std::mem;
+use sx_desk::Desk;
+use sx_kinds::Sheet;
+use sx_machine::Session;
+use sx_names::Names;
+
+// A session of a stylesheet, which is kept.
+fn start(alloc: Global, sheet: &Sheet, names: &Names) -> Result<Session, AllocError>
+    ensures { IfOk result (λ s. IsReady sheet.now names.now → Stands sheet.now names.now s [] 0) }
+{
+    Session::start(alloc, Sheet::copy(alloc, sheet)?, names)
+}
+
+/// Runs a stylesheet on an opened file of which nothing was taken: writes to the result, before each read, all that is
+/// determined by then. `names` are those of the stylesheet; the document's names get their numbers behind them.
+pub fn transform<D: Desk>(
+    alloc: Global,
+    sheet: &Sheet,
+    names: &mut Names,
+    file: u32,
+    desk: &mut D,
+) -> Status
+    requires given { file < length (D.seen desk.old).opened }
+    requires untouched { IsTrue (D.seen desk.old).told → (D.seen desk.old).taken file ≡ 0 }
+    ensures runs { IsReady sheet.now names.old → Transforms (run_written sheet.now names.old stated) (run_outcome sheet.now names.old stated) file (D.seen desk.old) (D.seen desk.new) result }
+    ensures kept { KeepsPlaces names.old names.new }
+    ensures frame { Frame file out.Result (D.seen desk.old) (D.seen desk.new) }
+{
+    // Its contract says that each name is there once.
+    names.find("", "");
+    match start(alloc, sheet, names) {
+        Ok(session) => {
+            let own = mem::replace(names, sx_names::new(alloc));
+            let mut runner = Runner::new(alloc, session, own);
+            let status = transfer(alloc, file, desk, &mut runner);
+            mem::swap(names, &mut runner.names);
+            status
+        }
+        Err(_) => Status::OutOfMemory,
+    }
+}
