@@ -11,3 +11,4 @@ pub mod Rules
 pub mod Moves
 pub mod Events
 pub mod Judgings
+pub mod Places

@@ -6,6 +6,7 @@ use Rattle.sx_tree.specs.Events.{Element}
 use Rattle.sx_tree.specs.Tree.{Document, Forest, Happening, starts, ends, says, instructs, closes, push, has_open}
 use Rattle.sx_build.specs.declared.raw.Raw.{Raw}
 use Rattle.sx_build.specs.Builder as builder
+use Rattle.sx_machine.specs.declared.rule_table.RuleTable.{RuleTable}
 use Rattle.sx_machine.specs.declared.session.Session.{Session}
 use Rattle.sx_machine.specs.declared.session.State.TheVariants as state
 use Rattle.sx_machine.specs.Body.{Body}
@@ -13,7 +14,7 @@ use Rattle.sx_machine.specs.Choice.{chosen_for}
 use Rattle.sx_machine.specs.Run.{Out, Ending, done, waits, stops, gives, applied, is_done}
 use Rattle.sx_machine.specs.Plan.{Task, tasks, reacts, task_of}
 use Rattle.sx_machine.specs.Growth.{ClosesWhole}
-use Rattle.sx_machine.specs.Session.{IsReady, StandsOn, meaning_on, state_of, root}
+use Rattle.sx_machine.specs.Session.{IsReady, StandsOn, FindsLast, meaning_on, state_of, root}
 use Rattle.sx_machine.proofs.Outs.{IsGoing, GoingAt, out, resume, resume_waits, resume_stops}
 use Rattle.sx_machine.proofs.Bodies.{IsGood, good_chosen}
 use Rattle.sx_machine.proofs.Steps.{GoesOn, pushed, step, going, closed, reacts_going}
@@ -94,9 +95,9 @@ module _ (sheet : Sheet) (names : List (List ℕ × List ℕ)) (old new : Sessio
       subst (λ (g : Ending). BuilderStands old before.raw (is_done g)) w s.builds
 
   -- a session that goes on, where r comes
-  pub stands_next : (h : Happening Element) (r : Out) → old.state ≡ state.Going → d.is_open ≡ true → GoesOn h → reacts (chosen_for sheet.templates) root (map (task_of old.rules) old.frames) h ≡ r →
+  pub stands_next : (h : Happening Element) (r : Out) → old.state ≡ state.Going → d.is_open ≡ true → GoesOn h → reacts (chosen_for sheet.templates) root (map (task_of old.rules.list) old.frames) h ≡ r →
       new.rules ≡ old.rules → BuilderStands new (before.raw ++ r.raw) false → new.state ≡ state_of r.ending →
-      (new.state ≡ state.Going → map (task_of new.rules) new.frames ≡ tasks (chosen_for sheet.templates) root (pushed d.content h)) → StandsOn sheet names new (push d h) given
+      (new.state ≡ state.Going → map (task_of new.rules.list) new.frames ≡ tasks (chosen_for sheet.templates) root (pushed d.content h)) → StandsOn sheet names new (push d h) given
   stands_next h r going_on o g is rules built state_is frames =
       let w : before.ending ≡ waits = waits_if_going before.ending (sym s.state_is ∙ going_on) in
       let comes : reacts (chosen_for sheet.templates) root (tasks (chosen_for sheet.templates) root d.content) h ≡ r =
@@ -106,7 +107,8 @@ module _ (sheet : Sheet) (names : List (List ℕ × List ℕ)) (old new : Sessio
       let goes : IsGoing r = subst IsGoing comes (reacts_going (chosen_for sheet.templates) (all_good sheet names s.ready) root (tasks (chosen_for sheet.templates) root d.content) h g) in
       record {
         ready = s.ready;
-        rules_are = rules ∙ s.rules_are;
+        rules_are = ap (λ (t : RuleTable). t.list) rules ∙ s.rules_are;
+        places_are = subst FindsLast (sym rules) s.places_are;
         builds =
             subst (λ (x : Out). BuilderStands new x.raw (is_done x.ending)) (sym after)
             (subst (λ (b : Bool). BuilderStands new (before.raw ++ r.raw) b) (sym (not_done r.ending goes)) built);
@@ -122,7 +124,8 @@ module _ (sheet : Sheet) (names : List (List ℕ × List ℕ)) (old new : Sessio
       meaning_closed sheet names s.ready d o h ∙ resume_waits before (gives []) w ∙ ap (λ (raws : List Raw). out raws done) (append-nil before.raw) in
       record {
         ready = s.ready;
-        rules_are = rules ∙ s.rules_are;
+        rules_are = ap (λ (t : RuleTable). t.list) rules ∙ s.rules_are;
+        places_are = subst FindsLast (sym rules) s.places_are;
         builds = subst (λ (x : Out). BuilderStands new x.raw (is_done x.ending)) (sym after) built;
         state_is = state_is ∙ sym (ap (λ (x : Out). state_of x.ending) after);
         frames_are = λ k. absurd (closed_not_going (sym state_is ∙ k));
@@ -136,6 +139,7 @@ module _ (sheet : Sheet) (names : List (List ℕ × List ℕ)) (old : Session) (
   same_meaning c x stopped e h after = record {
     ready = s.ready;
     rules_are = s.rules_are;
+    places_are = s.places_are;
     builds = subst (λ (y : Out). builder.Stands old.builder names y.raw (is_done y.ending) given) (sym (after ∙ e)) s.builds;
     state_is = s.state_is ∙ sym (ap (λ (y : Out). state_of y.ending) (after ∙ e));
     frames_are = λ k. absurd (stopped_not_going c (sym stopped ∙ k));

@@ -11,7 +11,7 @@ use Rattle.sx_build.specs.declared.raw.Raw.{Raw}
 use Rattle.sx_build.specs.declared.raw.Raw.TheVariants as raw
 use Rattle.sx_build.specs.Builder as building
 use Rattle.sx_machine.specs.declared.plans.Plan.{Plan}
-use Rattle.sx_machine.specs.declared.plans.Rule.{Rule}
+use Rattle.sx_machine.specs.declared.rule_table.RuleTable.{RuleTable}
 use Rattle.sx_machine.specs.declared.session.Frame.{Frame}
 use Rattle.sx_machine.specs.declared.session.Job.{Job}
 use Rattle.sx_machine.specs.declared.session.Job.TheVariants as job
@@ -35,7 +35,7 @@ module _ (sheet : Sheet) (names : List (List ℕ × List ℕ)) (old new : Sessio
   chosen = chosen_for sheet.templates
 
   abbrev now : List Task
-  now = map (task_of old.rules) old.frames
+  now = map (task_of old.rules.list) old.frames
 
   abbrev so_far : List Raw
   so_far = (meaning_on sheet d).raw
@@ -51,7 +51,7 @@ module _ (sheet : Sheet) (names : List (List ℕ × List ℕ)) (old new : Sessio
 
   -- nothing comes
   pub comes_nothing : (h : Happening Element) → GoesOn h → reacts chosen root now h ≡ waiting → new.rules ≡ old.rules → new.builder ≡ old.builder → new.state ≡ state.Going →
-      map (task_of new.rules) new.frames ≡ tasks chosen root (pushed d.content h) → StandsOn sheet names new (push d h) given
+      map (task_of new.rules.list) new.frames ≡ tasks chosen root (pushed d.content h) → StandsOn sheet names new (push d h) given
   comes_nothing h g is rules built still frames =
       stands_next sheet names old new d given s h waiting going_on o g is rules
       (unchanged old.builder new.builder built (builds_going sheet names old new d given s going_on)) still (λ _. frames)
@@ -66,21 +66,21 @@ module _ (sheet : Sheet) (names : List (List ℕ × List ℕ)) (old new : Sessio
   -- these come
   pub comes : (h : Happening Element) (raws : List Raw) → GoesOn h → reacts chosen root now h ≡ next (gives raws) waiting → new.rules ≡ old.rules →
       building.Stands new.builder names (so_far ++ raws) false given → new.state ≡ state.Going →
-      map (task_of new.rules) new.frames ≡ tasks chosen root (pushed d.content h) → StandsOn sheet names new (push d h) given
+      map (task_of new.rules.list) new.frames ≡ tasks chosen root (pushed d.content h) → StandsOn sheet names new (push d h) given
   comes h raws g is rules built still frames =
       stands_next sheet names old new d given s h (next (gives raws) waiting) going_on o g is rules
       (subst (λ (list : List Raw). building.Stands new.builder names (so_far ++ list) false given) (sym (append-nil raws)) built) still (λ _. frames)
 
   -- ---- the frames
 
-  same_frames : new.rules ≡ old.rules → new.frames ≡ old.frames → map (task_of new.rules) new.frames ≡ now
-  same_frames r f = ap₂ (λ (rs : List Rule) (fs : List Frame). map (task_of rs) fs) r f
+  same_frames : new.rules ≡ old.rules → new.frames ≡ old.frames → map (task_of new.rules.list) new.frames ≡ now
+  same_frames r f = ap₂ (λ (rs : RuleTable) (fs : List Frame). map (task_of rs.list) fs) r f
 
-  pub frames_more : (f : Frame) (e : Element) → new.rules ≡ old.rules → new.frames ≡ old.frames ++ f ∷ [] → task_of old.rules f ≡ entered chosen (last_job root now) e →
-      map (task_of new.rules) new.frames ≡ tasks chosen root (push_node d.content (begun (starts e)))
+  pub frames_more : (f : Frame) (e : Element) → new.rules ≡ old.rules → new.frames ≡ old.frames ++ f ∷ [] → task_of old.rules.list f ≡ entered chosen (last_job root now) e →
+      map (task_of new.rules.list) new.frames ≡ tasks chosen root (push_node d.content (begun (starts e)))
   frames_more f e r more is =
-      ap₂ (λ (rs : List Rule) (fs : List Frame). map (task_of rs) fs) r more
-      ∙ map-append (task_of old.rules) old.frames (f ∷ [])
+      ap₂ (λ (rs : RuleTable) (fs : List Frame). map (task_of rs.list) fs) r more
+      ∙ map-append (task_of old.rules.list) old.frames (f ∷ [])
       ∙ ap₂ (λ (ts : List Task) (t : Task). ts ++ t ∷ []) these (is ∙ ap (λ (ts : List Task). entered chosen (last_job root ts) e) these)
       ∙ sym (tasks_start chosen d.content root e)
 
@@ -103,7 +103,7 @@ module _ (sheet : Sheet) (names : List (List ℕ × List ℕ)) (old new : Sessio
   pub instruction_deep : (t u : List ℕ) (left : ℕ) → last_job root now ≡ job.Apply left → left ≡ 0 → new.rules ≡ old.rules → new.builder ≡ old.builder → new.state ≡ state.Stopped error.Sxli0001 → StandsOn sheet names new (push d (instructs t u)) given
   instruction_deep t u left j z r b k = comes_too_deep (instructs t u) tt (ap instructing (j ∙ ap job.Apply z)) r b k
 
-  pub start_skipped : (e : Element) (f : Frame) → last_job root now ≡ job.Skip → task_of old.rules f ≡ idle → new.rules ≡ old.rules → new.frames ≡ old.frames ++ f ∷ [] → new.builder ≡ old.builder → new.state ≡ state.Going →
+  pub start_skipped : (e : Element) (f : Frame) → last_job root now ≡ job.Skip → task_of old.rules.list f ≡ idle → new.rules ≡ old.rules → new.frames ≡ old.frames ++ f ∷ [] → new.builder ≡ old.builder → new.state ≡ state.Going →
       StandsOn sheet names new (push d (starts e)) given
   start_skipped e f j t r fs b k =
       comes_nothing (starts e) tt (ap (λ (i : Job). next (first chosen i e) waiting) j) r b k
@@ -113,7 +113,7 @@ module _ (sheet : Sheet) (names : List (List ℕ × List ℕ)) (old new : Sessio
   start_deep e left j z r b k = comes_too_deep (starts e) tt (ap (λ (i : Job). next (first chosen i e) waiting) (j ∙ ap job.Apply z)) r b k
 
   -- an element starts of which a template with this plan is chosen
-  pub start_comes : (e : Element) (f : Frame) (left : ℕ) (p : Plan) → last_job root now ≡ job.Apply (suc left) → plan_of (chosen e) ≡ p → task_of old.rules f ≡ task_for left p →
+  pub start_comes : (e : Element) (f : Frame) (left : ℕ) (p : Plan) → last_job root now ≡ job.Apply (suc left) → plan_of (chosen e) ≡ p → task_of old.rules.list f ≡ task_for left p →
       new.rules ≡ old.rules → new.frames ≡ old.frames ++ f ∷ [] → building.Stands new.builder names (so_far ++ p.before) false given → new.state ≡ state.Going → StandsOn sheet names new (push d (starts e)) given
   start_comes e f left p j planned t r fs b k =
       comes (starts e) p.before tt (ap (λ (i : Job). next (first chosen i e) waiting) j ∙ ap (λ (q : Plan). next (gives q.before) waiting) planned) r b k
@@ -121,17 +121,17 @@ module _ (sheet : Sheet) (names : List (List ℕ × List ℕ)) (old new : Sessio
 
   pub end_nothing : old.frames ≡ [] → new.rules ≡ old.rules → new.frames ≡ [] → new.builder ≡ old.builder → new.state ≡ state.Going → StandsOn sheet names new (push d ends) given
   end_nothing none r f b k =
-      let empty : now ≡ [] = ap (map (task_of old.rules)) none in
+      let empty : now ≡ [] = ap (map (task_of old.rules.list)) none in
       comes_nothing ends tt (ap ending_of empty) r b k
-      (ap₂ (λ (rs : List Rule) (fs : List Frame). map (task_of rs) fs) r f ∙ sym (tasks_end_none chosen d.content root (sym these ∙ empty)))
+      (ap₂ (λ (rs : RuleTable) (fs : List Frame). map (task_of rs.list) fs) r f ∙ sym (tasks_end_none chosen d.content root (sym these ∙ empty)))
 
-  pub end_comes : (f : Frame) → old.frames ≡ new.frames ++ f ∷ [] → new.rules ≡ old.rules → building.Stands new.builder names (so_far ++ (task_of old.rules f).after) false given → new.state ≡ state.Going →
+  pub end_comes : (f : Frame) → old.frames ≡ new.frames ++ f ∷ [] → new.rules ≡ old.rules → building.Stands new.builder names (so_far ++ (task_of old.rules.list f).after) false given → new.state ≡ state.Going →
       StandsOn sheet names new (push d ends) given
   end_comes f more r b k =
-      let front : List Task = map (task_of old.rules) new.frames in
-      let parts : now ≡ front ++ task_of old.rules f ∷ [] = ap (map (task_of old.rules)) more ∙ map-append (task_of old.rules) new.frames (f ∷ []) in
-      comes ends (task_of old.rules f).after tt (ap ending_of parts ∙ ending-snoc front (task_of old.rules f)) r b k
-      (ap (λ (rs : List Rule). map (task_of rs) new.frames) r ∙ sym (tasks_end chosen d.content root front (task_of old.rules f) (sym these ∙ parts)))
+      let front : List Task = map (task_of old.rules.list) new.frames in
+      let parts : now ≡ front ++ task_of old.rules.list f ∷ [] = ap (map (task_of old.rules.list)) more ∙ map-append (task_of old.rules.list) new.frames (f ∷ []) in
+      comes ends (task_of old.rules.list f).after tt (ap ending_of parts ∙ ending-snoc front (task_of old.rules.list f)) r b k
+      (ap (λ (rs : RuleTable). map (task_of rs.list) new.frames) r ∙ sym (tasks_end chosen d.content root front (task_of old.rules.list f) (sym these ∙ parts)))
 
 -- a number that is not zero
 pub left_is : (n : ℕ) → n ≢ 0 → n ≡ suc (n - 1)

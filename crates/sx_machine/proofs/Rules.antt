@@ -1,8 +1,6 @@
 -- The rules of templates: which is found for a name, and that the names in them have numbers.
-use Rattle.std.proofs.Common.{◌≡◌, ℕ, zero, suc, ◌<◌, ◌≤◌, ◌+◌, ◌-◌, nat_eq, Bool, true, false, cond, List, [], ◌∷◌, ◌++◌, length, drop, map, Option, Some, None, slice_get, get_or, refl, ap, ap₂, sym, ◌∙◌, add-one, drop-cons, take, arith, append_assoc}
+use Rattle.std.proofs.Common.{◌≡◌, ℕ, zero, suc, ◌<◌, ◌+◌, nat_eq, Bool, true, false, cond, List, [], ◌∷◌, ◌++◌, length, drop, map, Option, Some, None, slice_get, get_or, refl, ap, ap₂, sym, ◌∙◌, add-one, drop-cons, take, arith, append_assoc}
 use Rattle.std.proofs.Math.Seq.{take-suc}
-use Rattle.std.proofs.lemmas.Option.{slice_get-get_or}
-use Rattle.std.proofs.lemmas.Bool.Decides.{nat_tests}
 use Rattle.std.specs.Option.{option_map}
 use Rattle.sx_kinds.specs.declared.constructs.Pattern.{Pattern}
 use Rattle.sx_kinds.specs.declared.constructs.Instr.{Instr}
@@ -160,32 +158,3 @@ one_more before raws i r h e =
     append_assoc before (take i raws) (r ∷ [])
     ∙ ap (λ (x : Raw). before ++ (take i raws ++ x ∷ [])) e
     ∙ ap (λ (l : List Raw). before ++ l) (sym (take-suc raws i r h) ∙ ap (λ (k : ℕ). take k raws) (sym (add-one i)))
-
--- ---- the last that passes a test
-
-module _ {X : Type 0} (test : X → Bool) where
-  if_true : (v : Bool) (x : X) → v ≡ true → cond v (Some x) None ≡ Some x
-  if_true true x e = refl
-  if_true false x e = absurd (cc)
-
-  otherwise_some : (a b : Option X) (x : X) → a ≡ Some x → otherwise a b ≡ Some x
-  otherwise_some a b x e = ap (λ (o : Option X). otherwise o b) e
-
-  -- where nothing behind one that passes does so, it is the last
-  last_found : (xs : List X) (p : ℕ) (x : X) → p < length xs → x ≡ get_or xs p x → test x ≡ true → last_that test (drop (suc p) xs) ≡ None → last_that test xs ≡ Some x
-  last_found [] p x h e t n = absurd (omega arith)
-  last_found (y ∷ xs) zero x h e t n =
-      ap (λ (o : Option X). otherwise o (cond (test y) (Some y) None)) n
-      ∙ if_true (test y) y (ap test (sym e) ∙ t) ∙ ap Some (sym e)
-  last_found (y ∷ xs) (suc p) x h e t n = otherwise_some (last_that test xs) (cond (test y) (Some y) None) x (last_found xs p x (omega arith) e t n)
-
-  pub last_at : (xs : List X) (n : ℕ) (x : X) → 0 < n → n ≤ length xs → x ≡ get_or xs (n - 1) x → test x ≡ true → last_that test (drop n xs) ≡ None → slice_get xs (n - 1) ≡ last_that test xs
-  last_at xs n x h k e t none =
-      let within : n - 1 < length xs = omega arith in
-      let back : suc (n - 1) ≡ n = omega arith in
-      slice_get-get_or xs (n - 1) x within ∙ ap Some (sym e)
-      ∙ sym (last_found xs (n - 1) x within e t (ap (λ (m : ℕ). last_that test (drop m xs)) back ∙ none))
-
--- a name that is a number
-pub is_number_of : (o : Option ℕ) (name number : ℕ) → o ≡ Some name → name ≡ number → is_number number o ≡ true
-is_number_of o name number e same = ap (is_number number) e ∙ grind (arith, nat_tests)

@@ -16,10 +16,11 @@ use Rattle.sx_machine.specs.declared.session.State.{State}
 use Rattle.sx_machine.specs.declared.session.State.TheVariants as state
 use Rattle.sx_machine.specs.declared.session.Step.{Step}
 use Rattle.sx_machine.specs.declared.session.Step.TheVariants as step
-use Rattle.std.specs.Prelude.{Option, Some, None, Bool, true, false, nat_eq, slice_get}
+use Rattle.std.specs.Prelude.{Option, Some, None, Bool, true, false, nat_eq, slice_get, slice_index_or}
 use Rattle.sx_machine.specs.declared.plans.Rule.{Rule}
+use Rattle.sx_machine.specs.declared.rule_table.RuleTable.{RuleTable}
 use Rattle.sx_machine.specs.Body.{culprit, AreKnown}
-use Rattle.sx_machine.specs.Choice.{chosen_for}
+use Rattle.sx_machine.specs.Choice.{chosen_for, last_that}
 use Rattle.sx_machine.specs.Run.{Out, Ending, done, waits, stops, meaning, is_done, stated_invocations}
 use Rattle.sx_machine.specs.Plan.{rule_of, task_of, tasks}
 
@@ -74,23 +75,14 @@ is_spent s = is_spent_state s.state
 abbrev pub root : Job
 root = job.Apply 255
 
--- The session is what this stylesheet has on an open tree, and so many built events were taken from it. Names are those
--- that it was started with.
-pub record StandsOn (sheet : Sheet) (names : List (List ℕ × List ℕ)) (s : Session) (d : Document Element) (given : ℕ) : Type 0 where
-  pub ready : IsReady sheet names
-  pub rules_are : s.rules ≡ map rule_of sheet.templates
-  pub builds : builder.Stands s.builder names (meaning_on sheet d).raw (is_done (meaning_on sheet d).ending) given
-  pub state_is : s.state ≡ state_of (meaning_on sheet d).ending
-  pub frames_are : s.state ≡ state.Going → map (task_of s.rules) s.frames ≡ tasks (chosen_for sheet.templates) root d.content
-
--- the session is what this stylesheet has after these events
-abbrev pub Stands : Sheet → List (List ℕ × List ℕ) → Session → List Event → ℕ → Type 0
-Stands sheet names s events given = StandsOn sheet names s (tree_of (happenings_of events)) given
-
 -- the rule at a place
 abbrev pub rule_at : List Rule → Option ℕ → Option Rule
 rule_at rules None = None
 rule_at rules (Some n) = slice_get rules n
+
+-- the place that stands at a number
+abbrev pub place_in : List (Option ℕ) → ℕ → Option ℕ
+place_in places number = slice_index_or places number None
 
 -- an optional number is this one
 abbrev pub is_number : ℕ → Option ℕ → Bool
@@ -100,3 +92,21 @@ is_number number (Some n) = nat_eq n number
 -- a rule is for the name with this number
 abbrev pub is_named : ℕ → Rule → Bool
 is_named number r = is_number number r.name
+
+-- at the number of each name stands the place of the last rule for it
+abbrev pub FindsLast : RuleTable → Type 0
+FindsLast table = (number : ℕ) → rule_at table.list (place_in table.places number) ≡ last_that (is_named number) table.list
+
+-- The session is what this stylesheet has on an open tree, and so many built events were taken from it. Names are those
+-- that it was started with.
+pub record StandsOn (sheet : Sheet) (names : List (List ℕ × List ℕ)) (s : Session) (d : Document Element) (given : ℕ) : Type 0 where
+  pub ready : IsReady sheet names
+  pub rules_are : s.rules.list ≡ map rule_of sheet.templates
+  pub places_are : FindsLast s.rules
+  pub builds : builder.Stands s.builder names (meaning_on sheet d).raw (is_done (meaning_on sheet d).ending) given
+  pub state_is : s.state ≡ state_of (meaning_on sheet d).ending
+  pub frames_are : s.state ≡ state.Going → map (task_of s.rules.list) s.frames ≡ tasks (chosen_for sheet.templates) root d.content
+
+-- the session is what this stylesheet has after these events
+abbrev pub Stands : Sheet → List (List ℕ × List ℕ) → Session → List Event → ℕ → Type 0
+Stands sheet names s events given = StandsOn sheet names s (tree_of (happenings_of events)) given

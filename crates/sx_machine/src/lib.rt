@@ -2,6 +2,7 @@
 #![tactic(auto)]
 
 mod plans;
+mod rule_table;
 mod session;
 mod streamability;
 #[cfg(test)]
@@ -13,6 +14,8 @@ pub mod laws;
 // A contract of another crate can speak of `Session` only if the types of its fields are exported.
 #[doc(hidden)]
 pub use plans::{Plan, Rule};
+#[doc(hidden)]
+pub use rule_table::RuleTable;
 #[doc(hidden)]
 pub use session::{Frame, Job};
 pub use session::{Session, State, Step};

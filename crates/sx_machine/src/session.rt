@@ -1,5 +1,6 @@
 // The session.
 ghost use Rattle.std.specs.Prelude.{◌≡◌, ◌<◌, ◌∷◌, [], ◌++◌, ℕ, List, Bool, true, false, suc, Some, None, length, drop, map, slice_get, IfOk, IfSome, IsErr, OnOk, OnErr};
+ghost use Rattle.std.specs.Option.{option_copied};
 ghost use Rattle.sx_build.specs.declared.raw.Raw.{Raw as Request};
 ghost use Rattle.sx_build.specs.declared.raw.Raw.TheVariants as raw;
 ghost use Rattle.sx_build.specs.Build.{HaveNumbers};
@@ -8,14 +9,14 @@ ghost use Rattle.sx_kinds.specs.declared.sheets.Sheet.{Sheet as Stylesheet};
 ghost use Rattle.sx_machine.specs.declared.plans.Rule.{Rule as RuleOf};
 ghost use Rattle.sx_machine.specs.declared.session.Job.TheVariants as job;
 ghost use Rattle.sx_machine.specs.declared.session.State.TheVariants as state;
-ghost use Rattle.sx_machine.specs.Choice.{last_that};
 ghost use Rattle.sx_machine.specs.Plan.{after_at, task_of, last_job};
-ghost use Rattle.sx_machine.specs.Session.{root, rule_at, is_named};
+ghost use Rattle.sx_machine.specs.Session.{root, rule_at};
 ghost use Rattle.sx_names.specs.Numbering.{KeepsPlaces};
 ghost use Rattle.sx_tree.specs.declared.events.Event.{Event as DocumentEvent};
 ghost use Rattle.sx_tree.specs.declared.events.Event.TheVariants as event;
 
-use crate::plans::{Rule, rules_from};
+use crate::plans::Rule;
+use crate::rule_table::RuleTable;
 use sqlite_items::Items;
 use std::alloc::{AllocError, Global};
 use sx_atoms::Code;
@@ -71,26 +72,10 @@ pub enum Step {
 #[derive(Drop)]
 pub struct Session {
     alloc: Global,
-    rules: Items<Rule>,
+    rules: RuleTable,
     frames: Items<Frame>,
     builder: Builder,
     state: State,
-}
-
-// The place of the last rule for the name with this number.
-fn find(rules: &[Rule], number: u64) -> Option<usize>
-    ensures found { rule_at rules.now result ≡ last_that (is_named number) rules.now }
-    ensures within { IfSome result (λ place. place < length rules.now) }
-{
-    let mut place = rules.len();
-    while place > 0 {
-        place -= 1;
-        match rules[place].name {
-            Some(name) if name == number => return Some(place),
-            _ => {}
-        }
-    }
-    None
 }
 
 // Asks a builder for all of these, one behind the other.
@@ -109,14 +94,21 @@ fn write(
     Ok(())
 }
 
+// The rule at a place.
+fn rule_in(rules: &[Rule], place: Option<usize>) -> Option<&Rule>
+    ensures { option_copied result ≡ rule_at rules.now place }
+{
+    match place {
+        Some(place) => rules.get(place),
+        None => None,
+    }
+}
+
 // What the rule at a place gives behind the children.
 fn behind_in(rules: &[Rule], place: Option<usize>) -> &[Raw]
     ensures { result.now ≡ after_at rules.now place }
 {
-    let Some(place) = place else {
-        return &[];
-    };
-    match rules.get(place) {
+    match rule_in(rules, place) {
         Some(rule) => match &rule.plan.behind {
             Some(after) => after.as_slice(),
             None => &[],
@@ -148,7 +140,7 @@ impl Session {
     {
         Ok(Session {
             alloc,
-            rules: rules_from(alloc, sheet.templates.as_slice())?,
+            rules: RuleTable::new(alloc, sheet.templates.as_slice(), names)?,
             frames: Items::new(alloc),
             builder: Builder::new(alloc),
             state: State::Going,
@@ -281,27 +273,25 @@ impl Session {
     fn enter(&mut self, left: u64, number: u64, names: &Names) -> Result<(), AllocError>
         requires { self.old.state ≡ state.Going }
         ensures ok { OnOk result ((sheet : Stylesheet) (known : List (List ℕ × List ℕ)) (d : Document Element) (e : Element) (given : ℕ) → KeepsPlaces known names.now → d.is_open ≡ true
-            → e.label.number ≡ number → last_job root (map (task_of self.old.rules) self.old.frames) ≡ job.Apply (suc left)
+            → e.label.number ≡ number → last_job root (map (task_of self.old.rules.list) self.old.frames) ≡ job.Apply (suc left)
             → StandsOn sheet known self.old d given → StandsOn sheet known self.new (push d (starts e)) given) }
         ensures kept { self.new.state ≡ self.old.state }
     {
-        match find(self.rules.as_slice(), number) {
+        let place = self.rules.place(number);
+        match rule_in(self.rules.as_slice(), place) {
             None => self.frames.push(Frame {
                 job: Job::Apply(left),
                 rule: None,
             }),
-            Some(place) => {
-                let plan = &self.rules.as_slice()[place].plan;
+            Some(rule) => {
+                let plan = &rule.plan;
                 write(self.alloc, &mut self.builder, plan.before.as_slice(), names)?;
                 let job = if plan.behind.is_some() {
                     Job::Apply(left)
                 } else {
                     Job::Skip
                 };
-                self.frames.push(Frame {
-                    job,
-                    rule: Some(place),
-                })
+                self.frames.push(Frame { job, rule: place })
             }
         }
     }

@@ -17,7 +17,7 @@ returns-in-None-clause-ok c = λ sheet known d given keeps o s.
 
 pub returns-in-Some-clause-ok : goal.returns-in-Some-clause-ok
 returns-in-Some-clause-ok c = on_ok_weaker c.write.result (λ wrote sheet known d given keeps o s.
-    let rules = c.args.self.now.rules in
+    let rules = c.args.self.now.rules.list in
     let place = c.in-Some.frame.rule in
     let same = c.behind_in.ensures ∙ ap (λ (rs : List Rule). after_at rs place) c.as_slice.ensures in
     let known_here : HaveNumbers known (after_at rules place) = subst (λ (rs : List Rule). HaveNumbers known (after_at rs place)) (sym s.rules_are) (known_after known sheet.templates place s.ready.known) in

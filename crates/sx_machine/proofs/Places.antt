@@ -1,0 +1,76 @@
+-- The places of rules by the numbers of their names.
+use Rattle.std.proofs.Common.{◌≡◌, ◌⊎◌, inl, inr, ℕ, ◌<◌, ◌≤◌, ◌+◌, Bool, true, false, cond, List, [], ◌∷◌, ◌++◌, length, map, take, Option, Some, None, slice_get, get_or, refl, ap, ap₂, sym, ◌∙◌, arith}
+use Rattle.std.proofs.lemmas.Bool.{cases_lt, ne_eqb}
+use Rattle.std.proofs.lemmas.List.{get_or_past, take_more}
+use Rattle.std.proofs.lemmas.Option.{slice_get-get_or}
+use Rattle.sx_kinds.specs.declared.constructs.Pattern.{Pattern}
+use Rattle.sx_kinds.specs.declared.sheets.Template.{Template}
+use Rattle.sx_machine.specs.declared.plans.Rule.{Rule}
+use Rattle.sx_machine.specs.declared.rule_table.RuleTable.{RuleTable}
+use Rattle.sx_machine.specs.Body.{IsKnownPattern, AreKnown}
+use Rattle.sx_machine.specs.Choice.{otherwise, last_that}
+use Rattle.sx_machine.specs.Plan.{pattern_name, rule_of, after_at, after_rule}
+use Rattle.sx_machine.specs.Session.{rule_at, place_in, is_number, is_named, FindsLast}
+
+-- ---- the places of rules
+
+module _ {X : Type 0} (test : X → Bool) where
+  otherwise_none : (o : Option X) → o ≡ otherwise o None
+  otherwise_none None = refl
+  otherwise_none (Some x) = refl
+
+  otherwise_assoc : (a b c : Option X) → otherwise (otherwise a b) c ≡ otherwise a (otherwise b c)
+  otherwise_assoc None b c = refl
+  otherwise_assoc (Some x) b c = refl
+
+  -- one more at the end comes first
+  last-snoc : (xs : List X) (x : X) → last_that test (xs ++ x ∷ []) ≡ otherwise (cond (test x) (Some x) None) (last_that test xs)
+  last-snoc [] x = otherwise_none (cond (test x) (Some x) None)
+  last-snoc (y ∷ xs) x =
+      ap (λ (o : Option X). otherwise o (cond (test y) (Some y) None)) (last-snoc xs x)
+      ∙ otherwise_assoc (cond (test x) (Some x) None) (last_that test xs) (cond (test y) (Some y) None)
+
+place_or : (rules : List Rule) (v : Bool) (i : ℕ) (r : Rule) (place : Option ℕ) (last : Option Rule) → slice_get rules i ≡ Some r → rule_at rules place ≡ last →
+    rule_at rules (cond v (Some i) place) ≡ otherwise (cond v (Some r) None) last
+place_or rules true i r place last at e = at
+place_or rules false i r place last at e = e
+
+-- the places of one rule more
+pub place_more : (rules : List Rule) (i n : ℕ) (r : Rule) (old new : Option ℕ) → i < length rules → r ≡ get_or rules i r →
+    rule_at rules old ≡ last_that (is_named n) (take i rules) → new ≡ cond (is_named n r) (Some i) old →
+    rule_at rules new ≡ last_that (is_named n) (take (i + 1) rules)
+place_more rules i n r old new h read e put =
+    ap (rule_at rules) put
+    ∙ place_or rules (is_named n r) i r old (last_that (is_named n) (take i rules)) (slice_get-get_or rules i r h ∙ ap Some (sym read)) e
+    ∙ sym (last-snoc (is_named n) (take i rules) r)
+    ∙ ap (λ (x : Rule). last_that (is_named n) (take i rules ++ x ∷ [])) read
+    ∙ ap (last_that (is_named n)) (sym (take_more rules i r h))
+
+-- ---- numbers that the stylesheet doesn't know
+
+not_this : (count number : ℕ) (p : Option Pattern) → IsKnownPattern count p → count ≤ number → is_number number (pattern_name p) ≡ false
+not_this count number None k h = refl
+not_this count number (Some p) k h = ne_eqb p.name number (omega arith)
+
+no_rule : (count number : ℕ) (ts : List Template) → AreKnown count ts → count ≤ number → last_that (is_named number) (map rule_of ts) ≡ None
+no_rule count number [] k h = refl
+no_rule count number (t ∷ ts) k h =
+    ap₂ (λ (o : Option Rule) (v : Bool). otherwise o (cond v (Some (rule_of t)) None)) (no_rule count number ts k.2 h) (not_this count number t.pattern k.0 h)
+
+find_by : (table : RuleTable) (ts : List Template) (count : ℕ) → AreKnown count ts → table.list ≡ map rule_of ts →
+    ((n : ℕ) → n < count → rule_at table.list (place_in table.places n) ≡ last_that (is_named n) table.list) → length table.places ≤ count →
+    (number : ℕ) → (number < count) ⊎ (count ≤ number) → rule_at table.list (place_in table.places number) ≡ last_that (is_named number) table.list
+find_by table ts count known is found bound number (inl h) = found number h
+find_by table ts count known is found bound number (inr h) =
+    ap (rule_at table.list) (get_or_past table.places number None (omega arith))
+    ∙ sym (no_rule count number ts known h) ∙ ap (last_that (is_named number)) (sym is)
+
+-- where the names in templates have numbers each is found
+pub finds_last : (table : RuleTable) (ts : List Template) (count : ℕ) → AreKnown count ts → table.list ≡ map rule_of ts →
+    ((n : ℕ) → n < count → rule_at table.list (place_in table.places n) ≡ last_that (is_named n) table.list) → length table.places ≤ count → FindsLast table
+finds_last table ts count known is found bound = λ number. find_by table ts count known is found bound number (cases_lt number count)
+
+-- what comes behind the children is that of the rule at the place
+pub after_found : (rules : List Rule) (place : Option ℕ) → after_at rules place ≡ after_rule (rule_at rules place)
+after_found rules None = refl
+after_found rules (Some n) = refl
