@@ -5,6 +5,8 @@ mod event_reader;
 mod nesting;
 mod pending;
 mod taking;
+#[cfg(test)]
+mod tests;
 
 /// Laws over the definitions, each the contract of a function that does nothing.
 pub mod laws;
