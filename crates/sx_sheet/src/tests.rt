@@ -64,44 +64,83 @@ fn constructs_have_their_numbers_and_lines(rt: HostRuntime) -> Result<(), AllocE
     Ok(())
 }
 
+// What stands behind the head, and the line at fault.
+const FAULTS: &[(&[u8], u64)] = &[
+    (b"(xsl:mode\n)xsl:mode\n)xsl:stylesheet\n", 9),
+    (b"Amatch CDATA a\n(xsl:template\nAid CDATA x\n(out\n", 11),
+    (b"Amatch CDATA a\n(xsl:template\n-s\n", 11),
+    (b"Amatch CDATA a\n(xsl:template\n", 11),
+];
+
+// Why the head and these lines behind it are no stylesheet.
+fn fault_of(alloc: Global, rest: &[u8]) -> Result<Option<ThinFault>, AllocError> {
+    let mut names = sx_names::new(alloc);
+    Ok(read(alloc, rest, &mut names)?.err())
+}
+
+// The line of the first of these faults that is not found there.
+fn first_other(alloc: Global, faults: &[(&[u8], u64)]) -> Result<Option<u64>, AllocError> {
+    for (rest, line) in faults {
+        if fault_of(alloc, rest)? != broken(*line) {
+            return Ok(Some(*line));
+        }
+    }
+    Ok(None)
+}
+
 #[test]
 fn a_fault_has_its_line(rt: HostRuntime) -> Result<(), AllocError> {
+    assert_eq!(rt; first_other(rt.alloc(), FAULTS)?, None);
+    Ok(())
+}
+
+#[test]
+fn a_line_of_another_form_is_refused(rt: HostRuntime) -> Result<(), AllocError> {
+    let refused = fault_of(rt.alloc(), b"(b\n(a.b\n")?;
+    assert!(rt; refused == Some(ThinFault::Refused));
+    Ok(())
+}
+
+#[test]
+fn the_last_line_may_be_missing(rt: HostRuntime) -> Result<(), AllocError> {
+    let whole = fault_of(rt.alloc(), b")xsl:stylesheet")?;
+    assert!(rt; whole.is_none());
+    Ok(())
+}
+
+#[test]
+fn an_empty_stylesheet_breaks_off_at_once(rt: HostRuntime) -> Result<(), AllocError> {
     let mut names = sx_names::new(rt.alloc());
-    let cases: [(&[u8], Option<ThinFault>); 6] = [
-        (b"(xsl:mode\n)xsl:mode\n)xsl:stylesheet\n", broken(9)),
-        (
-            b"Amatch CDATA a\n(xsl:template\nAid CDATA x\n(out\n",
-            broken(11),
-        ),
-        (b"Amatch CDATA a\n(xsl:template\n-s\n", broken(11)),
-        (b"Amatch CDATA a\n(xsl:template\n", broken(11)),
-        (b"(b\n(a.b\n", Some(ThinFault::Refused)),
-        (b")xsl:stylesheet", None),
-    ];
-    for (rest, fault) in cases {
-        let answer = read(rt.alloc(), rest, &mut names)?;
-        assert!(rt; answer.err() == fault);
-    }
     let empty = read_thin(rt.alloc(), b"", &mut names)?;
     assert!(rt; empty.err() == broken(1));
     Ok(())
 }
 
+// Two pieces, and whether they are refused at once and at their end.
+type Pieces = (&'static [u8], &'static [u8], bool, bool);
+
+const PIECES: &[Pieces] = &[
+    (b"(a\n-", b"s\n", false, false),
+    (b"(a\n(a.", b"b", false, true),
+    (b"(a.b", b"\nC", true, true),
+    (b"", b"", false, false),
+];
+
+// Whether these pieces are refused when it is said.
+fn is_so(alloc: Global, pieces: &Pieces) -> Result<bool, AllocError> {
+    let (first, second, at_once, at_end) = *pieces;
+    let mut bytes = SheetBytes::new(alloc);
+    bytes.feed(first)?;
+    bytes.feed(second)?;
+    let early = bytes.is_refused();
+    bytes.finish();
+    Ok(early == at_once && bytes.is_refused() == at_end)
+}
+
 #[test]
 fn bytes_are_refused_as_soon_as_a_line_ends(rt: HostRuntime) -> Result<(), AllocError> {
-    let cases: [(&[u8], &[u8], bool, bool); 4] = [
-        (b"(a\n-", b"s\n", false, false),
-        (b"(a\n(a.", b"b", false, true),
-        (b"(a.b", b"\nC", true, true),
-        (b"", b"", false, false),
-    ];
-    for (first, second, at_once, at_end) in cases {
-        let mut bytes = SheetBytes::new(rt.alloc());
-        bytes.feed(first)?;
-        bytes.feed(second)?;
-        assert_eq!(rt; bytes.is_refused(), at_once);
-        bytes.finish();
-        assert_eq!(rt; bytes.is_refused(), at_end);
+    for pieces in PIECES {
+        assert!(rt; is_so(rt.alloc(), pieces)?);
     }
     Ok(())
 }
