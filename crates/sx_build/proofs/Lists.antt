@@ -2,7 +2,7 @@
 use Rattle.std.specs.Bool.{◌==◌}
 use Rattle.std.proofs.lemmas.Bool.{false≢true}
 use Rattle.std.proofs.lemmas.Bool.Decides.{nat_tests}
-use Rattle.std.proofs.Common.{◌≡◌, true, false, List, [], ◌∷◌, ◌++◌, length, refl, ap₂, sym, arith}
+use Rattle.std.proofs.Common.{◌≡◌, true, false, List, [], ◌∷◌, ◌++◌, length, slice_set, refl, ap, ap₂, sym, arith}
 
 module _ {X : Type 0} where
   pub not_snoc : (xs : List X) (x : X) → [] ≡ xs ++ x ∷ [] → ⊥
@@ -27,6 +27,9 @@ module _ {X : Type 0} where
   one_item [] e = absurd (cc)
   one_item (x ∷ []) e = (x, refl)
   one_item (x ∷ y ∷ xs) e = absurd (cc)
+
+  pub one_set : (xs : List X) (x : X) → length xs ≡ 1 → slice_set xs 0 x ≡ x ∷ []
+  one_set xs x e = let one = one_item xs e in ap (λ (ys : List X). slice_set ys 0 x) one.1
 
   pub no_items : (xs : List X) → true ≡ (length xs == 0) → xs ≡ []
   no_items [] e = refl

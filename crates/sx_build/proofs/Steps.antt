@@ -1,5 +1,5 @@
 -- What a builder does at each event, and what it gives.
-use Rattle.std.proofs.Common.{◌≡◌, ℕ, ◌<◌, Bool, true, false, List, [], ◌∷◌, ◌++◌, Option, Some, None, inr, length, drop, refl, ap, sym, ◌∙◌, subst, append_assoc, append-nil}
+use Rattle.std.proofs.Common.{◌≡◌, ℕ, ◌<◌, ◌⊎◌, Bool, true, false, List, [], ◌∷◌, ◌++◌, Option, Some, None, inl, inr, length, drop, refl, ap, sym, ◌∙◌, subst, append_assoc, append-nil}
 use Rattle.std.proofs.Math.Seq.{drop-append_seam}
 use Rattle.std.specs.Prelude.{MatchOption}
 use Rattle.sx_tree.specs.declared.events.Label.{Label}
@@ -23,7 +23,7 @@ module _ (elements : List (List ℕ)) (pending spare : List Built) (withheld : B
 
   pub started : (label : Label) (name : List ℕ) (e : Built) (elements' : List (List ℕ)) (pending' spare' : List Built)
       → name ≡ printed_name names label → e ≡ event.Start name [] → label.number < length names
-      → pending' ≡ pending ++ e ∷ [] → spare' ≡ e ∷ [] → elements' ≡ elements ++ name ∷ []
+      → pending' ≡ pending ++ e ∷ [] → length spare' ≡ 1 → elements' ≡ elements ++ name ∷ []
       → StandsAs elements' pending' spare' true names (raws ++ raw.Start label ∷ []) false given
   started label name e elements' pending' spare' named is within pushed spared opened =
       let r = raw.Start label in
@@ -143,3 +143,31 @@ module _ (elements : List (List ℕ)) (pending spare : List Built) (names : List
       let one = one_item s.held s.held_is.0 in
       let whole : rest ++ last ∷ [] ≡ s.fixed ++ one.0 ∷ [] = sym pop ∙ same ∙ s.pending_is ∙ ap (λ (es : List Built). s.fixed ++ es) one.1 in
       (snoc_same rest s.fixed last one.0 whole).0 ∙ due_is s
+
+  -- what is withheld is all that is left
+  pub held_back : (spare' taken rest : List Built) (last : Built) → taken ≡ pending → taken ≡ rest ++ last ∷ [] → StandsAs elements pending spare true names raws at_end given
+      → StandsAs elements (last ∷ []) spare' true names raws at_end (length (Build names raws at_end))
+  held_back spare' taken rest last same pop s =
+      let one = one_item s.held s.held_is.0 in
+      let whole : rest ++ last ∷ [] ≡ s.fixed ++ one.0 ∷ [] = sym pop ∙ same ∙ s.pending_is ∙ ap (λ (es : List Built). s.fixed ++ es) one.1 in
+      let is : last ∷ [] ≡ s.held = ap (λ (e : Built). e ∷ []) (snoc_same rest s.fixed last one.0 whole).1 ∙ sym one.1 in
+      record {
+        front = s.front ++ s.fixed;
+        fixed = [];
+        held = last ∷ [];
+        count = ap length s.due;
+        pending_is = refl;
+        held_is = (refl, inl refl);
+        whole = ap (λ (es : List Built). es ++ last ∷ []) (append-nil (s.front ++ s.fixed)) ∙ ap (λ (es : List Built). (s.front ++ s.fixed) ++ es) is ∙ s.whole;
+        due = append-nil (s.front ++ s.fixed) ∙ s.due;
+        elements_are = s.elements_are;
+        numbered = s.numbered;
+      }
+
+  -- where more than what is withheld is pending, a list of one event is at hand
+  pub at_hand : (length pending ≡ 1 → ⊥) → StandsAs elements pending spare true names raws at_end given → length spare ≡ 1
+  at_hand more s = by s.held_is.1
+    where
+      by : (s.fixed ≡ []) ⊎ (length spare ≡ 1) → length spare ≡ 1
+      by (inl none) = absurd (more (ap length (s.pending_is ∙ ap (λ (es : List Built). es ++ s.held) none) ∙ s.held_is.0))
+      by (inr one) = one

@@ -14,10 +14,10 @@ abbrev pub turned : {X : Type 0} → List X → List X
 turned [] = []
 turned (x ∷ xs) = turned xs ++ x ∷ []
 
--- Nothing is withheld; or one event is, and it stands alone or a list of it alone is at hand.
+-- Nothing is withheld; or one event is, and it stands alone or a list of one event is at hand.
 abbrev pub IsHeld : Bool → List Built → List Built → List Built → Type 0
 IsHeld false fixed held spare = held ≡ []
-IsHeld true fixed held spare = (length held ≡ 1) × ((fixed ≡ []) ⊎ (spare ≡ held))
+IsHeld true fixed held spare = (length held ≡ 1) × ((fixed ≡ []) ⊎ (length spare ≡ 1))
 
 -- Of the built events of these, front was given, fixed can be given, and held is withheld; elements are open.
 pub record StandsAs (elements : List (List ℕ)) (pending spare : List Built) (withheld : Bool)

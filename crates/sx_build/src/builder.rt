@@ -27,7 +27,8 @@ pub struct Builder {
     elements: Items<Chars>,
     // what was not given yet, with the withheld start behind it
     pending: Builts,
-    // the withheld start once more, so that giving what stands before it takes no memory
+    // a list of one event, whatever it is: it takes the withheld start where what stands before that is given, which so
+    // takes no memory
     spare: Builts,
     withheld: bool,
     spent: bool,
@@ -75,6 +76,15 @@ fn one(alloc: Global, e: Built) -> Result<Builts, AllocError>
     let mut events = Items::new(alloc);
     events.push(e)?;
     Ok(events)
+}
+
+// A list of one event holds this one instead.
+fn hold(list: &mut Builts, e: Built)
+    ensures { length list.old ≡ 1 → list.new ≡ e ∷ [] }
+{
+    if !list.is_empty() {
+        list.set(0, e);
+    }
 }
 
 impl Builder {
@@ -143,10 +153,24 @@ impl Builder {
         ensures kept { OnOk result (is_spent self.new ≡ is_spent self.old) }
     {
         let name = print_name(self.alloc, label, names)?;
-        self.spare = one(self.alloc, start_of(self.alloc, name.as_str())?)?;
+        self.prepare()?;
         self.pending.push(start_of(self.alloc, name.as_str())?)?;
         self.elements.push(name)?;
         self.withheld = true;
+        Ok(())
+    }
+
+    // A list of one event is at hand.
+    fn prepare(&mut self) -> Result<(), AllocError>
+        ensures spare { OnOk result (length self.new.spare ≡ 1) }
+        ensures pending { self.new.pending ≡ self.old.pending }
+        ensures elements { self.new.elements ≡ self.old.elements }
+        ensures withheld { self.new.withheld ≡ self.old.withheld }
+        ensures spent { self.new.spent ≡ self.old.spent }
+    {
+        if self.spare.len() != 1 {
+            self.spare = one(self.alloc, Built::Text(Chars::new(self.alloc)))?;
+        }
         Ok(())
     }
 
@@ -214,7 +238,10 @@ impl Builder {
         }
         let spare = mem::replace(&mut self.spare, Items::new(self.alloc));
         let mut fixed = mem::replace(&mut self.pending, spare);
-        let _ = fixed.pop();
+        match fixed.pop() {
+            Some(start) => hold(&mut self.pending, start),
+            None => {}
+        }
         fixed
     }
 }
