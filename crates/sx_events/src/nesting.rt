@@ -104,12 +104,9 @@ impl Nesting {
     }
 }
 
-// Whether a number is that of a name in no namespace.
+// Whether a number, which is that of a name in no namespace, is that of this name.
 fn is_number_of(names: &Names, number: u64, name: &str) -> bool
     ensures { (n : List ℕ) → slice_get names.now number ≡ Some ([], n) → result ≡ bytes_eq n name.now }
 {
-    match names.find("", name) {
-        Some(found) => found == number,
-        None => false,
-    }
+    names.has(number) && names.local(number) == name
 }
