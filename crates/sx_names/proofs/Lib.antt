@@ -1,3 +1,5 @@
 pub mod Places
+mod BindingLemmas
 mod NameLemmas
+mod ScopeLemmas
 mod Search

@@ -13,10 +13,10 @@ use Rattle.sx_names.proofs.Search.{not_true, none_passes, fails_each, found_item
 use Rattle.sx_names.proofs.Places.{held_place, within_stays, push_cases, IsDistinct-push}
 
 -- a text is what its place holds
-text_at-place : (texts : List (List ℕ)) (n : ℕ) (t : List ℕ) → slice_get texts n ≡ Some t → text_at texts n ≡ t
+pub text_at-place : (texts : List (List ℕ)) (n : ℕ) (t : List ℕ) → slice_get texts n ≡ Some t → text_at texts n ≡ t
 text_at-place texts n t at = ap (λ o. option_map_or (λ x. x) o []) at
 
-place_of_text : (texts : List (List ℕ)) (n : ℕ) → n < length texts → slice_get texts n ≡ Some (text_at texts n)
+pub place_of_text : (texts : List (List ℕ)) (n : ℕ) → n < length texts → slice_get texts n ≡ Some (text_at texts n)
 place_of_text texts n h = let held = held_place texts n h in held.1 ∙ ap Some (sym (text_at-place texts n held.0 held.1))
 
 -- the derived `==` of the numbers of two names

@@ -1,2 +1,4 @@
+pub mod Bindings
 pub mod Inside
 pub mod Numbering
+pub mod Scope

@@ -1,5 +1,5 @@
-// Names as a document brings them.
-use crate::new;
+// Names and namespace bindings as a document brings them.
+use crate::{Scope, new};
 use std::alloc::AllocError;
 
 // The names in the order in which they come, each with its number.
@@ -27,5 +27,35 @@ fn a_name_keeps_the_number_of_its_first_time(rt: HostRuntime) -> Result<(), Allo
     }
     assert_eq!(rt; names.find("urn:a", "chapter"), None);
     assert!(rt; !names.has(6));
+    Ok(())
+}
+
+// Whether the prefixes `xml`, `p` and the empty one are bound to these.
+fn is_in_force(scope: &Scope, p: Option<&str>, default: Option<&str>) -> bool {
+    let xml = Some("http://www.w3.org/XML/1998/namespace");
+    scope.lookup("xml") == xml && scope.lookup("p") == p && scope.lookup("") == default
+}
+
+// Three elements, one inside the other: the second hides the bindings of the first, the third takes the default back.
+#[test]
+fn an_element_hides_bindings_until_it_is_left(rt: HostRuntime) -> Result<(), AllocError> {
+    let mut scope = Scope::new(rt.alloc());
+    assert!(rt; is_in_force(&scope, None, Some("")));
+    scope.enter()?;
+    scope.declare("p", "urn:a")?;
+    scope.declare("", "urn:b")?;
+    assert!(rt; is_in_force(&scope, Some("urn:a"), Some("urn:b")));
+    scope.enter()?;
+    scope.declare("p", "urn:c")?;
+    assert!(rt; is_in_force(&scope, Some("urn:c"), Some("urn:b")));
+    scope.enter()?;
+    scope.declare("", "")?;
+    assert!(rt; is_in_force(&scope, Some("urn:c"), Some("")));
+    scope.leave();
+    assert!(rt; is_in_force(&scope, Some("urn:c"), Some("urn:b")));
+    scope.leave();
+    assert!(rt; is_in_force(&scope, Some("urn:a"), Some("urn:b")));
+    scope.leave();
+    assert!(rt; is_in_force(&scope, None, Some("")));
     Ok(())
 }
