@@ -1,10 +1,13 @@
 //! Atoms: exact numbers, texts and truth values; the codes of errors; the functions of expressions.
 #![tactic(auto)]
 
+mod arithmetic;
 mod atoms;
 mod comparison;
 mod error_codes;
 mod functions;
+mod numbers;
+mod numerals;
 
 pub use atoms::{Args, Atom, AtomType, Atoms, Dec, Text};
 pub use comparison::CmpOp;

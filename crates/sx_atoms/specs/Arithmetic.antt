@@ -1,0 +1,86 @@
+-- Arithmetic (XPath 3.1, 3.5), over all integers. A decimal is a number of units of 10^-9.
+use Rattle.std.specs.Prelude.{if◌then◌else◌, [], ◌∷◌, Result, Ok, Err, ℤ, ◌+ℤ◌, ◌-ℤ◌, ◌*ℤ◌, int_div, int_rem}
+use Rattle.sx_atoms.specs.Numbers.{◌>>=◌, by_way_of, one, is_zero, paired}
+use Rattle.sx_atoms.specs.Numerals.{decimal_in}
+use Rattle.sx_atoms.specs.declared.atoms.Atom.{Atom}
+use Rattle.sx_atoms.specs.declared.atoms.Atom.TheVariants as atom
+use Rattle.sx_atoms.specs.declared.atoms.Dec.{Dec}
+use Rattle.sx_atoms.specs.declared.error_codes.Code.{Code}
+use Rattle.sx_atoms.specs.declared.error_codes.Code.TheVariants as code
+use Rattle.sx_atoms.specs.declared.numbers.Number.{Number}
+use Rattle.sx_atoms.specs.declared.numbers.Number.TheVariants as number
+use Rattle.sx_atoms.specs.declared.numbers.Operands.{Operands}
+use Rattle.sx_atoms.specs.declared.numbers.Operands.TheVariants.{Ints, Units}
+
+-- this many units
+abbrev pub dec : ℤ → Dec
+dec z = record { 0 = z }
+
+-- the number that an atom is as an operand: text without a type is read as a decimal; a string and a truth value are none
+abbrev pub number_of : Atom → Result Number Code
+number_of (atom.Int n) = Ok (number.Int n)
+number_of (atom.Dec d) = Ok (number.Dec d)
+number_of (atom.Str s) = Err code.Xpty0004
+number_of (atom.Bool b) = Err code.Xpty0004
+number_of (atom.Untyped text) = do
+  z ← decimal_in text
+  Ok (number.Dec (dec z))
+
+-- two atoms as operands; the left one is looked at first
+abbrev pub operands_of : Atom → Atom → Result Operands Code
+operands_of a b = do
+  x ← number_of a
+  y ← number_of b
+  paired x y
+
+-- the same, where the right one is a divisor, which must not be zero
+abbrev pub dividend_and_divisor_of : Atom → Atom → Result Operands Code
+dividend_and_divisor_of a b = do
+  x ← number_of a
+  y ← number_of b
+  if is_zero y then Err code.Foar0001 else paired x y
+
+-- what f makes of two operands, and of a dividend and a divisor
+abbrev pub with_operands : (Operands → Result Atom Code) → Atom → Atom → Result Atom Code
+with_operands f a b = do
+  pair ← operands_of a b
+  f pair
+
+abbrev pub with_divisor : (Operands → Result Atom Code) → Atom → Atom → Result Atom Code
+with_divisor f a b = do
+  pair ← dividend_and_divisor_of a b
+  f pair
+
+-- the sum
+abbrev pub sum_of : Operands → Result Atom Code
+sum_of (Ints a b) = by_way_of ((a +ℤ b) ∷ []) (atom.Int (a +ℤ b))
+sum_of (Units a b) = by_way_of ((a +ℤ b) ∷ []) (atom.Dec (dec (a +ℤ b)))
+
+-- the difference
+abbrev pub difference_of : Operands → Result Atom Code
+difference_of (Ints a b) = by_way_of ((a -ℤ b) ∷ []) (atom.Int (a -ℤ b))
+difference_of (Units a b) = by_way_of ((a -ℤ b) ∷ []) (atom.Dec (dec (a -ℤ b)))
+
+-- the product: that of decimals is the product of their units, divided by 10^9 and cut toward zero
+abbrev pub product_of : Operands → Result Atom Code
+product_of (Ints a b) = by_way_of ((a *ℤ b) ∷ []) (atom.Int (a *ℤ b))
+product_of (Units a b) = let cut = int_div (a *ℤ b) one in by_way_of ((a *ℤ b) ∷ cut ∷ []) (atom.Dec (dec cut))
+
+-- the quotient of two integers, or of two numbers of units, as a decimal: 10^9 times the first, divided and cut toward zero
+abbrev pub decimal_quotient : ℤ → ℤ → Result Atom Code
+decimal_quotient a b = let cut = int_div (a *ℤ one) b in by_way_of ((a *ℤ one) ∷ cut ∷ []) (atom.Dec (dec cut))
+
+-- the quotient, which is always a decimal
+abbrev pub quotient_of : Operands → Result Atom Code
+quotient_of (Ints a b) = decimal_quotient a b
+quotient_of (Units a b) = decimal_quotient a b
+
+-- the whole quotient, which is always an integer, cut toward zero
+abbrev pub whole_quotient_of : Operands → Result Atom Code
+whole_quotient_of (Ints a b) = by_way_of (int_div a b ∷ []) (atom.Int (int_div a b))
+whole_quotient_of (Units a b) = by_way_of (int_div a b ∷ []) (atom.Int (int_div a b))
+
+-- what the whole quotient leaves, with the sign of the dividend
+abbrev pub remainder_of : Operands → Result Atom Code
+remainder_of (Ints a b) = by_way_of (int_rem a b ∷ []) (atom.Int (int_rem a b))
+remainder_of (Units a b) = by_way_of (int_rem a b ∷ []) (atom.Dec (dec (int_rem a b)))

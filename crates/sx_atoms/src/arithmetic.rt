@@ -1,0 +1,116 @@
+// Arithmetic of atoms.
+ghost use Rattle.std.specs.Prelude.{◌≡◌, ◌≢◌, pos, IfOk};
+ghost use Rattle.sx_atoms.specs.Arithmetic.{number_of, dividend_and_divisor_of, with_operands, with_divisor, sum_of, difference_of, product_of, decimal_quotient, quotient_of, whole_quotient_of, remainder_of};
+ghost use Rattle.sx_atoms.specs.Numbers.{divisor_of};
+
+use crate::atoms::{Atom, Dec};
+use crate::error_codes::Code;
+use crate::numbers::{
+    Number, Operands, UNITS, difference, paired, product, quotient, remainder, sum,
+};
+use crate::numerals::decimal;
+
+// The number that an atom is as an operand.
+fn number(atom: &Atom) -> Result<Number, Code>
+    ensures { result ≡ number_of atom.now }
+{
+    match atom {
+        Atom::Int(n) => Ok(Number::Int(*n)),
+        Atom::Dec(d) => Ok(Number::Dec(*d)),
+        Atom::Str(_) | Atom::Bool(_) => Err(Code::Xpty0004),
+        Atom::Untyped(text) => Ok(Number::Dec(Dec(decimal(text.as_str().as_bytes())?))),
+    }
+}
+
+/// The sum (XPath 3.1, 3.5): an integer of two integers, and else a decimal. XPTY0004 for a string or a truth value, the
+/// code of the cast to a decimal for text without a type, FOAR0002 where an operand is no decimal or the sum is too great.
+pub fn add(a: &Atom, b: &Atom) -> Result<Atom, Code>
+    ensures { result ≡ with_operands sum_of a.now b.now }
+{
+    let x = number(a)?;
+    let y = number(b)?;
+    match paired(x, y)? {
+        Operands::Ints(a, b) => Ok(Atom::Int(sum(a, b)?)),
+        Operands::Units(a, b) => Ok(Atom::Dec(Dec(sum(a, b)?))),
+    }
+}
+
+/// The difference, as the sum.
+pub fn sub(a: &Atom, b: &Atom) -> Result<Atom, Code>
+    ensures { result ≡ with_operands difference_of a.now b.now }
+{
+    let x = number(a)?;
+    let y = number(b)?;
+    match paired(x, y)? {
+        Operands::Ints(a, b) => Ok(Atom::Int(difference(a, b)?)),
+        Operands::Units(a, b) => Ok(Atom::Dec(Dec(difference(a, b)?))),
+    }
+}
+
+/// The product, as the sum: of decimals, that of their units divided by 10^9 and cut toward zero, where that before the cut
+/// is not too great.
+pub fn mul(a: &Atom, b: &Atom) -> Result<Atom, Code>
+    ensures { result ≡ with_operands product_of a.now b.now }
+{
+    let x = number(a)?;
+    let y = number(b)?;
+    match paired(x, y)? {
+        Operands::Ints(a, b) => Ok(Atom::Int(product(a, b)?)),
+        Operands::Units(a, b) => Ok(Atom::Dec(Dec(quotient(product(a, b)?, UNITS)?))),
+    }
+}
+
+// Two atoms as a dividend and a divisor that is not zero.
+fn dividend_and_divisor(a: &Atom, b: &Atom) -> Result<Operands, Code>
+    ensures value { result ≡ dividend_and_divisor_of a.now b.now }
+    ensures divisor { IfOk result (λ pair. divisor_of pair ≢ pos 0) }
+{
+    let x = number(a)?;
+    let y = number(b)?;
+    if y.is_zero() {
+        return Err(Code::Foar0001);
+    }
+    paired(x, y)
+}
+
+// The quotient of two integers, or of two numbers of units.
+fn quotient_in_units(a: i128, b: i128) -> Result<Atom, Code>
+    requires { b ≢ pos 0 }
+    ensures { result ≡ decimal_quotient a b }
+{
+    Ok(Atom::Dec(Dec(quotient(product(a, UNITS)?, b)?)))
+}
+
+/// The quotient, always a decimal, cut toward zero after 9 digits: XPTY0004 and the code of a cast as the sum; FOAR0001
+/// where the divisor is zero; FOAR0002 where an operand that is no integer beside the other, 10^9 times the dividend, or the
+/// quotient is too great.
+pub fn div(a: &Atom, b: &Atom) -> Result<Atom, Code>
+    ensures { result ≡ with_divisor quotient_of a.now b.now }
+{
+    match dividend_and_divisor(a, b)? {
+        Operands::Ints(a, b) => quotient_in_units(a, b),
+        Operands::Units(a, b) => quotient_in_units(a, b),
+    }
+}
+
+/// The whole quotient, always an integer, cut toward zero. Its codes are those of the quotient, but 10^9 times the dividend
+/// does not count.
+pub fn idiv(a: &Atom, b: &Atom) -> Result<Atom, Code>
+    ensures { result ≡ with_divisor whole_quotient_of a.now b.now }
+{
+    match dividend_and_divisor(a, b)? {
+        Operands::Ints(a, b) => Ok(Atom::Int(quotient(a, b)?)),
+        Operands::Units(a, b) => Ok(Atom::Int(quotient(a, b)?)),
+    }
+}
+
+/// What the whole quotient leaves (`mod`), with the sign of the dividend: an integer of two integers, and else a decimal.
+/// FOAR0002 only where an operand is no decimal.
+pub fn rem(a: &Atom, b: &Atom) -> Result<Atom, Code>
+    ensures { result ≡ with_divisor remainder_of a.now b.now }
+{
+    match dividend_and_divisor(a, b)? {
+        Operands::Ints(a, b) => Ok(Atom::Int(remainder(a, b))),
+        Operands::Units(a, b) => Ok(Atom::Dec(Dec(remainder(a, b)))),
+    }
+}
