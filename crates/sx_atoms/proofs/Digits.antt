@@ -8,7 +8,7 @@ use Rattle.std.specs.List.{list_all}
 use Rattle.std.proofs.lemmas.List.{drop_more}
 use Rattle.std.proofs.Math.ListN.{drop_of_length-le}
 use Rattle.sx_atoms.specs.Numbers.{fits, held}
-use Rattle.sx_atoms.specs.Numerals.{digits_value, with_sign, units_value, units_of}
+use Rattle.sx_atoms.specs.Lexical.{digits_value, with_sign, units_value, units_of}
 use Rattle.sx_atoms.specs.declared.error_codes.Code.TheVariants as code
 
 abbrev pub most : ℕ

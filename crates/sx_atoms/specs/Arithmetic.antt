@@ -1,7 +1,7 @@
 -- Arithmetic (XPath 3.1, 3.5), over all integers. A decimal is a number of units of 10^-9.
 use Rattle.std.specs.Prelude.{if◌then◌else◌, [], ◌∷◌, Result, Ok, Err, ℤ, ◌+ℤ◌, ◌-ℤ◌, ◌*ℤ◌, int_div, int_rem}
 use Rattle.sx_atoms.specs.Numbers.{◌>>=◌, by_way_of, one, is_zero, paired}
-use Rattle.sx_atoms.specs.Numerals.{decimal_in}
+use Rattle.sx_atoms.specs.Lexical.{decimal_in}
 use Rattle.sx_atoms.specs.declared.atoms.Atom.{Atom}
 use Rattle.sx_atoms.specs.declared.atoms.Atom.TheVariants as atom
 use Rattle.sx_atoms.specs.declared.atoms.Dec.{Dec}

@@ -1,4 +1,6 @@
 pub mod Arithmetic
 pub mod Codes
+pub mod Compared
+pub mod Comparison
+pub mod Lexical
 pub mod Numbers
-pub mod Numerals

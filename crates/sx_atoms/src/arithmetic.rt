@@ -5,10 +5,10 @@ ghost use Rattle.sx_atoms.specs.Numbers.{divisor_of};
 
 use crate::atoms::{Atom, Dec};
 use crate::error_codes::Code;
+use crate::lexical::decimal;
 use crate::numbers::{
     Number, Operands, UNITS, difference, paired, product, quotient, remainder, sum,
 };
-use crate::numerals::decimal;
 
 // The number that an atom is as an operand.
 fn number(atom: &Atom) -> Result<Number, Code>

@@ -6,8 +6,8 @@ mod atoms;
 mod comparison;
 mod error_codes;
 mod functions;
+mod lexical;
 mod numbers;
-mod numerals;
 
 pub use atoms::{Args, Atom, AtomType, Atoms, Dec, Text};
 pub use comparison::CmpOp;

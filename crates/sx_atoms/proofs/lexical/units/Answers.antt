@@ -2,10 +2,10 @@ use Rattle.std.proofs.Common.{◌≡◌, ◌+◌, ◌<◌, ◌^◌, true, arith,
 use Rattle.std.proofs.lemmas.Bool.Decides.{nat_tests}
 use Rattle.std.specs.Char.{is_ascii_digit}
 use Rattle.std.specs.List.{list_all}
-use Rattle.sx_atoms.specs.Numerals.{digits_value}
+use Rattle.sx_atoms.specs.Lexical.{digits_value}
 use Rattle.sx_atoms.proofs.Digits.{scaled, written}
-use Rattle.sx_atoms.proofs.numerals.units.Goals as goal
-use Rattle.sx_atoms.proofs.numerals.units.Goals.{then-is_empty, else-is_empty}
+use Rattle.sx_atoms.proofs.lexical.units.Goals as goal
+use Rattle.sx_atoms.proofs.lexical.units.Goals.{then-is_empty, else-is_empty}
 
 pub returns : goal.returns
 returns c =

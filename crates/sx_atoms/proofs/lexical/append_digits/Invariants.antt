@@ -1,7 +1,7 @@
 use Rattle.std.proofs.Common.{◌≡◌, ◌+◌, ◌*◌, ◌^◌, ◌≤◌, min, length, drop}
-use Rattle.sx_atoms.specs.Numerals.{digits_value}
+use Rattle.sx_atoms.specs.Lexical.{digits_value}
 use Rattle.sx_atoms.proofs.Digits.{most}
-use Rattle.sx_atoms.proofs.numerals.append_digits.Given as goal
+use Rattle.sx_atoms.proofs.lexical.append_digits.Given as goal
 
 abbrev pub invariant-loop-digit : goal.invariant-loop-digit
 invariant-loop-digit l =

@@ -1,6 +1,6 @@
 use Rattle.std.proofs.Common.{◌∙◌, arith}
 use Rattle.sx_atoms.proofs.Digits.{appended, all_appended}
-use Rattle.sx_atoms.proofs.numerals.append_digits.Goals as goal
+use Rattle.sx_atoms.proofs.lexical.append_digits.Goals as goal
 
 pub loop-digit-preserved : goal.loop-digit-preserved
 loop-digit-preserved c =

@@ -1,5 +1,6 @@
--- The numbers that texts write.
-use Rattle.std.specs.Prelude.{ℕ, ◌+◌, ◌-◌, ◌*◌, ◌^◌, Bool, ◌&&◌, ◌||◌, ◌==◌, if◌then◌else◌, nat_le, nat_lt, List, [], ◌∷◌, ◌++◌, length, take, drop, Result, Err, ℤ, pos, neg_ℤ}
+-- The values that texts write, by the lexical forms of their types (XML Schema 1.1 part 2, 3.3).
+use Rattle.std.specs.Prelude.{ℕ, ◌+◌, ◌-◌, ◌*◌, ◌^◌, Bool, ◌&&◌, ◌||◌, ◌==◌, if◌then◌else◌, nat_le, nat_lt, List, [], ◌∷◌, ◌++◌, length, take, drop, Result, Ok, Err, ℤ, pos, neg_ℤ, true, false, codes}
+use Rattle.std.specs.Str.{bytes_eq}
 use Rattle.std.specs.Char.{is_ascii_digit}
 use Rattle.std.specs.List.{list_all, prefix_len, suffix_len, before_first, after_first}
 use Rattle.std.specs.Str.Parse.{starts_with_minus, without_leading_sign}
@@ -58,3 +59,12 @@ decimal_of numeral = let digits = without_leading_sign numeral in
 
 abbrev pub decimal_in : List ℕ → Result ℤ Code
 decimal_in text = decimal_of (trimmed text)
+
+-- the truth value that a text writes, as a word or a digit, and white space round it
+abbrev pub truth_of : List ℕ → Result Bool Code
+truth_of word =
+    if bytes_eq word (codes "true") || bytes_eq word (codes "1") then Ok true
+    else (if bytes_eq word (codes "false") || bytes_eq word (codes "0") then Ok false else Err code.Forg0001)
+
+abbrev pub truth_in : List ℕ → Result Bool Code
+truth_in text = truth_of (trimmed text)

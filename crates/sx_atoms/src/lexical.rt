@@ -1,11 +1,11 @@
-// The numbers that texts write.
+// The values that texts write, by the lexical forms of their types.
 ghost use Rattle.std.specs.Prelude.{◌≡◌, ◌+◌, ◌-◌, ◌*◌, ◌^◌, ◌≤◌, min, pos, length, IsTrue, reverse};
 ghost use Rattle.std.specs.Char.{is_ascii_digit};
 ghost use Rattle.std.specs.List.{list_all, before_first, after_first, take_while, position};
 ghost use Rattle.std.specs.Str.Parse.{starts_with_minus, without_leading_sign};
 ghost use Rattle.sx_atoms.specs.Numbers.{held};
-ghost use Rattle.sx_atoms.specs.Numerals as spec;
-ghost use Rattle.sx_atoms.specs.Numerals.{digits_value, with_sign, units_of, decimal_in, integer_in, is_point};
+ghost use Rattle.sx_atoms.specs.Lexical as spec;
+ghost use Rattle.sx_atoms.specs.Lexical.{digits_value, with_sign, units_of, decimal_in, integer_in, truth_in, is_point};
 
 use crate::error_codes::Code;
 
@@ -33,7 +33,7 @@ fn blanks_behind(text: &[u8]) -> usize
 }
 
 // A text without the white space at its ends.
-pub fn trimmed(text: &[u8]) -> &[u8]
+fn trimmed(text: &[u8]) -> &[u8]
     ensures { result.now ≡ spec.trimmed text.now }
 {
     let front = &text[blanks_before(text)..];
@@ -102,7 +102,7 @@ fn signed(minus: bool, number: u128) -> Result<i128, Code>
     signed.ok_or(Code::Foar0002)
 }
 
-/// The integer that a text writes.
+/// The integer that a text writes: digits, a sign before them or none, and white space round it.
 pub fn integer(text: &[u8]) -> Result<i128, Code>
     ensures { result ≡ integer_in text.now }
 {
@@ -128,11 +128,23 @@ fn units(minus: bool, whole: &[u8], fraction: &[u8]) -> Result<i128, Code>
     signed(minus, units)
 }
 
-/// The decimal that a text writes, in units.
+/// The decimal that a text writes, in units of 10^-9: as an integer, but with a point before, between or behind the digits
+/// or none.
 pub fn decimal(text: &[u8]) -> Result<i128, Code>
     ensures { result ≡ decimal_in text.now }
 {
     let (minus, digits) = split_sign(trimmed(text));
     let (whole, fraction) = split_point(digits);
     units(minus, whole, fraction)
+}
+
+/// The truth value that a text writes: `true` or `1`, `false` or `0`, and white space round it.
+pub fn truth(text: &[u8]) -> Result<bool, Code>
+    ensures { result ≡ truth_in text.now }
+{
+    match trimmed(text) {
+        b"true" | b"1" => Ok(true),
+        b"false" | b"0" => Ok(false),
+        _ => Err(Code::Forg0001),
+    }
 }
