@@ -1,5 +1,5 @@
 // Atoms: numbers, texts and truth values.
-ghost use Rattle.std.specs.Prelude.{◌≡◌, [], IfOk};
+ghost use Rattle.std.specs.Prelude.{◌≡◌, [], IfOk, string_bytes};
 
 use sqlite_items::Items;
 use std::alloc::{AllocError, Global};
@@ -36,6 +36,13 @@ impl Text {
         Ok(Text {
             inner: String::from_str(alloc, s)?,
         })
+    }
+
+    /// A text that is there already. It takes no memory.
+    pub fn from_string(text: String) -> Text
+        ensures { result ≡ string_bytes text }
+    {
+        Text { inner: text }
     }
 
     /// The text.

@@ -3,13 +3,18 @@
 
 mod arithmetic;
 mod atoms;
+mod casting;
 mod comparison;
 mod error_codes;
 mod functions;
 mod lexical;
 mod numbers;
+mod printing;
 
+pub use arithmetic::{add, div, idiv, mul, rem, sub};
 pub use atoms::{Args, Atom, AtomType, Atoms, Dec, Text};
-pub use comparison::CmpOp;
+pub use casting::{cast, castable};
+pub use comparison::{CmpOp, compare};
 pub use error_codes::Code;
 pub use functions::{SeqFn, TextFn, Usage};
+pub use printing::print;
