@@ -10,6 +10,8 @@ mod functions;
 mod lexical;
 mod numbers;
 mod printing;
+#[cfg(test)]
+mod tests;
 
 pub use arithmetic::{add, div, idiv, mul, rem, sub};
 pub use atoms::{Args, Atom, AtomType, Atoms, Dec, Text};
