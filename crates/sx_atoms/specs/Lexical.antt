@@ -29,14 +29,13 @@ are_digits bytes = list_all is_ascii_digit bytes && nat_lt 0 (length bytes)
 abbrev pub with_sign : Bool → ℕ → ℤ
 with_sign minus n = if minus then neg_ℤ (pos n) else pos n
 
--- the integer that a numeral writes: digits, behind one sign or none
-abbrev pub integer_of : List ℕ → Result ℤ Code
-integer_of numeral = let digits = without_leading_sign numeral in
-    if are_digits digits then held (with_sign (starts_with_minus numeral) (digits_value digits)) else Err code.Forg0001
+-- the integer that these digits write
+abbrev pub integer_of : Bool → List ℕ → Result ℤ Code
+integer_of minus digits = if are_digits digits then held (with_sign minus (digits_value digits)) else Err code.Forg0001
 
--- white space round a numeral counts for nothing
+-- the integer that a text writes: digits, behind one sign or none, and white space round it
 abbrev pub integer_in : List ℕ → Result ℤ Code
-integer_in text = integer_of (trimmed text)
+integer_in text = let numeral = trimmed text in integer_of (starts_with_minus numeral) (without_leading_sign numeral)
 
 abbrev pub is_point : ℕ → Bool
 is_point c = c == 46
@@ -53,12 +52,9 @@ units_of minus whole fraction =
     else Err code.Forg0001
 
 -- the decimal that a text writes, in units: as an integer, but with a point before, between or behind the digits or none
-abbrev pub decimal_of : List ℕ → Result ℤ Code
-decimal_of numeral = let digits = without_leading_sign numeral in
-    units_of (starts_with_minus numeral) (before_first is_point digits) (after_first is_point digits)
-
 abbrev pub decimal_in : List ℕ → Result ℤ Code
-decimal_in text = decimal_of (trimmed text)
+decimal_in text = let numeral = trimmed text in let digits = without_leading_sign numeral in
+    units_of (starts_with_minus numeral) (before_first is_point digits) (after_first is_point digits)
 
 -- the truth value that a text writes, as a word or a digit, and white space round it
 abbrev pub truth_of : List ℕ → Result Bool Code

@@ -3,6 +3,7 @@ pub mod Casting
 pub mod Codes
 pub mod Compared
 pub mod Comparison
+pub mod Laws
 pub mod Lexical
 pub mod Numbers
 pub mod Printing

@@ -7,6 +7,7 @@ mod casting;
 mod comparison;
 mod error_codes;
 mod functions;
+pub mod laws;
 mod lexical;
 mod numbers;
 mod printing;
