@@ -1,6 +1,6 @@
 -- The declarations of elements, one element around the other.
-use Rattle.std.proofs.Common.{◌≡◌, ℕ, suc, ◌+◌, ◌-◌, ◌<◌, ◌≤◌, Bool, true, false, List, [], ◌∷◌, ◌++◌, length, take, drop, reverse, Option, None, Some, Result, Ok, Err, OnOk, OnErr, MatchOption, unwrap_or, refl, sym, ap, ◌∙◌, subst, bytes_eq, if◌then◌else◌, arith}
-use Rattle.std.proofs.lemmas.List.{take-append-drop, reverse-append, length-reverse}
+use Rattle.std.proofs.Common.{◌≡◌, ℕ, suc, ◌+◌, ◌-◌, ◌<◌, ◌≤◌, true, false, List, [], ◌∷◌, ◌++◌, length, take, drop, reverse, Option, None, Some, Result, Ok, Err, OnOk, OnErr, MatchOption, unwrap_or, refl, sym, ap, ◌∙◌, subst, bytes_eq, if◌then◌else◌, arith}
+use Rattle.std.proofs.lemmas.List.{take-append-drop, reverse-append}
 use Rattle.std.specs.Option.{option_or, option_to_list}
 use Rattle.sx_names.specs.Scope.{bound_in, bound_at_first, bound, declared_in}
 use Rattle.sx_names.specs.Bindings.{elements_of, AreElements}

@@ -1,6 +1,5 @@
-use Rattle.std.proofs.Common.{◌≡◌, ◌<◌, None, Some, ap, sym, ◌∙◌, subst, reverse, get_or, string_bytes, arith}
+use Rattle.std.proofs.Common.{◌≡◌, None, Some, ap, sym, ◌∙◌, reverse, get_or, string_bytes, arith}
 use Rattle.std.proofs.lemmas.Option.{slice_get_within, get_or_from_slice_get}
-use Rattle.sx_names.specs.Scope.{bound_in}
 use Rattle.sx_names.specs.Bindings.{place_in_force}
 use Rattle.sx_names.proofs.BindingLemmas.{bound_in-absent, bound_in-none, bound_in-some}
 use Rattle.sx_names.proofs.bindings.Bindings.find.Goals as goal

@@ -1,5 +1,4 @@
-use Rattle.std.proofs.Common.{◌≡◌, ◌<◌, [], ◌∷◌, ◌++◌, length, arith}
-use Rattle.sx_names.specs.Bindings.{pairs_of, pair_of, AreBindings}
+use Rattle.std.proofs.Common.{arith}
 use Rattle.sx_names.proofs.BindingLemmas.{bindings-pop}
 use Rattle.sx_names.proofs.bindings.Bindings.pop.Goals as goal
 

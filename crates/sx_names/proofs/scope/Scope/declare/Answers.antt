@@ -1,6 +1,5 @@
-use Rattle.std.proofs.Common.{◌≡◌, ◌∷◌, ◌<◌, length, reverse, sym, ap, ◌∙◌, subst}
-use Rattle.sx_names.specs.Scope.{declared_in}
-use Rattle.sx_names.specs.Bindings.{elements_of, AreElements}
+use Rattle.std.proofs.Common.{◌<◌, length, reverse, sym, subst}
+use Rattle.sx_names.specs.Bindings.{elements_of}
 use Rattle.sx_names.proofs.ScopeLemmas.{declared_or_not, declared_where_ok}
 use Rattle.sx_names.proofs.scope.Scope.declare.Goals as goal
 

@@ -1,4 +1,4 @@
-use Rattle.std.proofs.Common.{◌≡◌, ◌∷◌, ◌<◌, length, reverse, sym, ap, ◌∙◌, subst}
+use Rattle.std.proofs.Common.{reverse, sym, ap, ◌∙◌}
 use Rattle.std.specs.Option.{option_or}
 use Rattle.sx_names.specs.Scope.{bound_at_first}
 use Rattle.sx_names.proofs.ScopeLemmas.{bound_is}
