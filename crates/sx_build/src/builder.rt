@@ -10,12 +10,9 @@ use crate::Raw;
 use sqlite_items::Items;
 use std::alloc::{AllocError, Global};
 use std::mem;
-use sx_lines::Built;
+use sx_lines::{Built, Builts};
 use sx_names::Names;
 use sx_tree::{Chars, Label};
-
-/// Built events, in order.
-pub type Builts = Items<Built>;
 
 /// Builds a result as it is asked for. What is fixed can be given; a start at the end is withheld.
 ///

@@ -6,5 +6,6 @@ mod raw;
 #[cfg(test)]
 mod tests;
 
-pub use builder::{Builder, Builts};
+pub use builder::Builder;
 pub use raw::{Raw, Raws};
+pub use sx_lines::Builts;

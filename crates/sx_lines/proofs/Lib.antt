@@ -1,1 +1,7 @@
+mod Escapes
+mod Lacking
+mod LineBytes
+mod NameBytes
+mod ReadBack
+mod Results
 pub mod Printed

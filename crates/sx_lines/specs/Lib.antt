@@ -1,1 +1,4 @@
+pub mod Lines
+pub mod Normal
 pub mod Print
+pub mod Reader

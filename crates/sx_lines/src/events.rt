@@ -24,3 +24,6 @@ pub enum Built {
     /// a processing instruction
     Pi { target: Chars, content: Chars },
 }
+
+/// What a result is built of, in order.
+pub type Builts = Items<Built>;

@@ -1,5 +1,5 @@
 // Events and their printed bytes.
-use crate::{Built, Pair, append, ending, ending_len, print};
+use crate::{Built, Pair, append, ending, ending_len, print, read_back};
 use sqlite_items::Items;
 use std::alloc::{AllocError, Global};
 use sx_tree::Chars;
@@ -77,4 +77,113 @@ fn each_event_adds_its_lines(rt: HostRuntime) -> Result<(), AllocError> {
 fn a_result_ends_in_the_line_that_it_conforms(rt: HostRuntime) {
     assert_eq!(rt; &ending(true)[..ending_len(true)], b"\nC\n".as_slice());
     assert_eq!(rt; &ending(false)[..ending_len(false)], b"C\n".as_slice());
+}
+
+// Appends the attributes of an element, each behind a space.
+fn describe_pairs(out: &mut String, pairs: &[Pair]) -> Result<(), AllocError> {
+    for pair in pairs {
+        out.push(' ')?;
+        out.push_str(pair.name.as_str())?;
+        out.push('=')?;
+        out.push_str(pair.value.as_str())?;
+    }
+    Ok(())
+}
+
+// Appends an event much as XML writes it.
+fn describe(out: &mut String, event: &Built) -> Result<(), AllocError> {
+    match event {
+        Built::Start { name, pairs } => {
+            out.push('<')?;
+            out.push_str(name.as_str())?;
+            describe_pairs(out, pairs.as_slice())?;
+            out.push('>')
+        }
+        Built::End { name } => {
+            out.push_str("</")?;
+            out.push_str(name.as_str())?;
+            out.push('>')
+        }
+        Built::Text(text) => out.push_str(text.as_str()),
+        Built::Pi { target, content } => {
+            out.push_str("<?")?;
+            out.push_str(target.as_str())?;
+            out.push('|')?;
+            out.push_str(content.as_str())?;
+            out.push('>')
+        }
+    }
+}
+
+// Whether bytes are read back to the events that are described so, or to none.
+fn reads_back(alloc: Global, bytes: &[u8], wanted: Option<&str>) -> Result<bool, AllocError> {
+    match read_back(alloc, bytes)? {
+        None => Ok(wanted.is_none()),
+        Some(events) => {
+            let mut out = String::new(alloc);
+            for event in events.as_slice() {
+                describe(&mut out, event)?;
+            }
+            Ok(wanted == Some(out.as_str()))
+        }
+    }
+}
+
+const PRINTED: &[(&str, &str)] = &[
+    ("C\n", ""),
+    ("-x\nC\n", "x"),
+    ("(book\n(p:b\n)p:b\n)book\nC\n", "<book><p:b></p:b></book>"),
+    (")book\nC\n", "</book>"),
+    (
+        "Aa CDATA \nAp:b CDATA  \\\\\\n\\011\\177\u{e9}\n(\u{e9}\nC\n",
+        "<\u{e9} a= p:b= \\\n\t\u{7f}\u{e9}>",
+    ),
+    ("?go\n?go  a\\nb \nC\n", "<?go|><?go| a\nb >"),
+    ("-one\n)a\n-\\001\\037 ~\nC\n", "one</a>\u{1}\u{1f} ~"),
+];
+
+#[test]
+fn each_printed_form_is_read_back(rt: HostRuntime) -> Result<(), AllocError> {
+    for (bytes, wanted) in PRINTED {
+        assert!(rt; reads_back(rt.alloc(), bytes.as_bytes(), Some(*wanted))?);
+    }
+    Ok(())
+}
+
+const NOT_PRINTED: &[(&str, &str)] = &[
+    ("", "no last line"),
+    ("(a\n)a\n", "no last line behind others"),
+    ("C", "the last line does not end"),
+    ("C\nC\n", "a line behind the last"),
+    ("\nC\n", "an empty line"),
+    ("L1\nC\n", "a line of another kind"),
+    ("-\nC\n", "an empty text"),
+    ("-a\n-b\nC\n", "a text directly behind a text"),
+    ("-a\tb\nC\n", "a control character that is not escaped"),
+    ("-a\\tb\nC\n", "an escape that is none"),
+    ("-\\012\nC\n", "a newline by its number"),
+    ("-\\101\nC\n", "a letter by its number"),
+    ("-\\01\nC\n", "a number of two digits"),
+    ("-\\201\nC\n", "a byte beyond ASCII by its number"),
+    ("Aa CDATA 1\nC\n", "an attribute of no element"),
+    (
+        "Aa CDATA 1\n-x\n(a\nC\n",
+        "a text between an attribute and its element",
+    ),
+    ("Aa CDATA\n(b\nC\n", "no space before the value"),
+    ("Aa TOKEN 1\n(b\nC\n", "an attribute of another type"),
+    ("A1 CDATA 1\n(b\nC\n", "an attribute whose name is none"),
+    ("(1\nC\n", "an element whose name is none"),
+    ("(a b\nC\n", "a space in a name"),
+    ("?go \nC\n", "a space before no content"),
+    ("?p:go\nC\n", "a colon in a target"),
+];
+
+#[test]
+fn other_bytes_are_read_back_to_nothing(rt: HostRuntime) -> Result<(), AllocError> {
+    for (bytes, why) in NOT_PRINTED {
+        assert!(rt; reads_back(rt.alloc(), bytes.as_bytes(), None)?, "{why}");
+    }
+    assert!(rt; reads_back(rt.alloc(), b"-\xFF\nC\n", None)?);
+    Ok(())
 }
