@@ -1,3 +1,4 @@
+mod Characters
 mod Cuts
 mod Digits
 mod Integers

@@ -9,6 +9,8 @@ use Rattle.sx_atoms.specs.declared.atoms.Atom.{Atom}
 use Rattle.sx_atoms.specs.declared.atoms.Atom.TheVariants as atom
 use Rattle.sx_atoms.specs.declared.comparison.CmpOp.{CmpOp}
 use Rattle.sx_atoms.specs.declared.comparison.CmpOp.TheVariants as op
+use Rattle.sx_atoms.specs.declared.comparison.Comparable.{Comparable}
+use Rattle.sx_atoms.specs.declared.comparison.Comparable.TheVariants as comparable
 use Rattle.sx_atoms.specs.declared.error_codes.Code.{Code}
 use Rattle.sx_atoms.specs.declared.error_codes.Code.TheVariants as code
 use Rattle.sx_atoms.specs.declared.numbers.Number.TheVariants as number
@@ -19,8 +21,8 @@ pub data Value : Type 0 where
   text : List ℕ → Value
   truth : Bool → Value
 
--- Two values of one kind have an order. Texts are ordered by their characters, which is the order of their bytes; false
--- comes before true.
+-- Two values of one kind have an order. Texts are ordered by their bytes, which is the order of their characters (a law
+-- says so); false comes before true.
 abbrev pub order_of : Value → Value → Result Ordering Code
 order_of (quantity x) (quantity y) = Ok (int_cmp x y)
 order_of (text s) (text t) = Ok (slice_cmp nat_cmp s t)
@@ -75,3 +77,9 @@ comparison_of operator general a b = do
   y ← value_beside general b a
   o ← order_of x y
   Ok (holds operator o)
+
+-- the value that the code compares
+abbrev pub seen : Comparable → Value
+seen (comparable.Quantity n) = quantity (units n)
+seen (comparable.Text s) = text s.now
+seen (comparable.Truth b) = truth b

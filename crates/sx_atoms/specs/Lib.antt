@@ -1,7 +1,6 @@
 pub mod Arithmetic
 pub mod Casting
 pub mod Codes
-pub mod Compared
 pub mod Comparison
 pub mod Laws
 pub mod Lexical

@@ -1,6 +1,9 @@
 // What a caller relies on, said of the definitions.
-ghost use Rattle.std.specs.Prelude.{◌≡◌, true, Bool, Ok, ℤ, ◌*ℤ◌};
+ghost use Rattle.std.specs.Prelude.{◌≡◌, true, Bool, Ok, ℕ, List, ℤ, ◌*ℤ◌};
 ghost use Rattle.std.specs.Cmp.{IsTotalOrder};
+ghost use Rattle.std.specs.Cmp.Lexicographic.{slice_cmp};
+ghost use Rattle.std.specs.Ordering.{nat_cmp};
+ghost use Rattle.std.specs.Str.{encode_utf8_all};
 ghost use Rattle.sx_atoms.specs.Arithmetic.{with_operands, with_divisor, sum_of, product_of, quotient_of, whole_quotient_of, remainder_of, dec};
 ghost use Rattle.sx_atoms.specs.Casting.{cast_of};
 ghost use Rattle.sx_atoms.specs.Comparison.{comparison_of, holds};
@@ -17,6 +20,11 @@ use crate::atoms::Atom;
 pub fn order()
     ensures by_value { (op : Operator) (general : Bool) (x y : AnyNumber) → comparison_of op general (atom_of x) (atom_of y) ≡ Ok (holds op (order_of_numbers x y)) }
     ensures total { IsTotalOrder order_of_numbers }
+{}
+
+/// The order of texts by their bytes is that by their characters.
+pub fn text_order()
+    ensures { (s t : List ℕ) → slice_cmp nat_cmp (encode_utf8_all s) (encode_utf8_all t) ≡ slice_cmp nat_cmp s t }
 {}
 
 /// What is printed of a number casts back to it, also as text without a type.
