@@ -1,6 +1,6 @@
 // Arithmetic of atoms.
 ghost use Rattle.std.specs.Prelude.{◌≡◌, ◌≢◌, pos, IfOk};
-ghost use Rattle.sx_atoms.specs.Arithmetic.{number_of, dividend_and_divisor_of, with_operands, with_divisor, sum_of, difference_of, product_of, decimal_quotient, quotient_of, whole_quotient_of, remainder_of};
+ghost use Rattle.sx_atoms.specs.Arithmetic.{number_of, operands_of, dividend_and_divisor_of, with_operands, with_divisor, sum_of, difference_of, product_of, decimal_quotient, quotient_of, whole_quotient_of, remainder_of};
 ghost use Rattle.sx_atoms.specs.Numbers.{divisor_of};
 
 use crate::atoms::{Atom, Dec};
@@ -22,14 +22,21 @@ fn number(atom: &Atom) -> Result<Number, Code>
     }
 }
 
+// Two atoms as operands.
+fn operands(a: &Atom, b: &Atom) -> Result<Operands, Code>
+    ensures { result ≡ operands_of a.now b.now }
+{
+    let x = number(a)?;
+    let y = number(b)?;
+    paired(x, y)
+}
+
 /// The sum (XPath 3.1, 3.5): an integer of two integers, and else a decimal. XPTY0004 for a string or a truth value, the
 /// code of the cast to a decimal for text without a type, FOAR0002 where an operand is no decimal or the sum is too great.
 pub fn add(a: &Atom, b: &Atom) -> Result<Atom, Code>
     ensures { result ≡ with_operands sum_of a.now b.now }
 {
-    let x = number(a)?;
-    let y = number(b)?;
-    match paired(x, y)? {
+    match operands(a, b)? {
         Operands::Ints(a, b) => Ok(Atom::Int(sum(a, b)?)),
         Operands::Units(a, b) => Ok(Atom::Dec(Dec(sum(a, b)?))),
     }
@@ -39,22 +46,18 @@ pub fn add(a: &Atom, b: &Atom) -> Result<Atom, Code>
 pub fn sub(a: &Atom, b: &Atom) -> Result<Atom, Code>
     ensures { result ≡ with_operands difference_of a.now b.now }
 {
-    let x = number(a)?;
-    let y = number(b)?;
-    match paired(x, y)? {
+    match operands(a, b)? {
         Operands::Ints(a, b) => Ok(Atom::Int(difference(a, b)?)),
         Operands::Units(a, b) => Ok(Atom::Dec(Dec(difference(a, b)?))),
     }
 }
 
-/// The product, as the sum: of decimals, that of their units divided by 10^9 and cut toward zero, where that before the cut
-/// is not too great.
+/// The product, as the sum. That of decimals is cut toward zero after 9 digits; FOAR0002 also where the product of their
+/// units, before it is divided by 10^9, is too great.
 pub fn mul(a: &Atom, b: &Atom) -> Result<Atom, Code>
     ensures { result ≡ with_operands product_of a.now b.now }
 {
-    let x = number(a)?;
-    let y = number(b)?;
-    match paired(x, y)? {
+    match operands(a, b)? {
         Operands::Ints(a, b) => Ok(Atom::Int(product(a, b)?)),
         Operands::Units(a, b) => Ok(Atom::Dec(Dec(quotient(product(a, b)?, UNITS)?))),
     }
@@ -81,9 +84,9 @@ fn quotient_in_units(a: i128, b: i128) -> Result<Atom, Code>
     Ok(Atom::Dec(Dec(quotient(product(a, UNITS)?, b)?)))
 }
 
-/// The quotient, always a decimal, cut toward zero after 9 digits: XPTY0004 and the code of a cast as the sum; FOAR0001
-/// where the divisor is zero; FOAR0002 where an operand that is no integer beside the other, 10^9 times the dividend, or the
-/// quotient is too great.
+/// The quotient, always a decimal, cut toward zero after 9 digits. XPTY0004 and the code of a cast come first, as for the
+/// sum; then FOAR0001 where the divisor is zero; then FOAR0002 where an operand is no decimal and has to be one, or where
+/// 10^9 times the dividend or the quotient is too great.
 pub fn div(a: &Atom, b: &Atom) -> Result<Atom, Code>
     ensures { result ≡ with_divisor quotient_of a.now b.now }
 {
@@ -104,8 +107,8 @@ pub fn idiv(a: &Atom, b: &Atom) -> Result<Atom, Code>
     }
 }
 
-/// What the whole quotient leaves (`mod`), with the sign of the dividend: an integer of two integers, and else a decimal.
-/// FOAR0002 only where an operand is no decimal.
+/// What the whole quotient leaves (`mod`), with the sign of the dividend: an integer of two integers, and else a decimal. Its
+/// codes are those of the quotient, but FOAR0002 comes only where an operand is no decimal and has to be one.
 pub fn rem(a: &Atom, b: &Atom) -> Result<Atom, Code>
     ensures { result ≡ with_divisor remainder_of a.now b.now }
 {
