@@ -1,67 +1,74 @@
 -- The built events of a result, from what was asked for in turn.
-use Rattle.std.specs.Prelude.{ℕ, ◌<◌, Bool, true, false, List, [], ◌∷◌, ◌++◌, length, if◌then◌else◌}
-use Rattle.sx_tree.specs.declared.events.Label.{Label}
+use Rattle.std.specs.Prelude.{ℕ, Bool, true, false, ◌&&◌, codes, List, [], ◌∷◌, ◌++◌, Option, is_none, if◌then◌else◌}
+use Rattle.sx_atoms.specs.declared.error_codes.Code.{Code}
+use Rattle.sx_chars.specs.Names.{prefixed}
+use Rattle.sx_lines.specs.declared.events.Pair.{Pair}
 use Rattle.sx_lines.specs.declared.events.Built.{Built}
 use Rattle.sx_lines.specs.declared.events.Built.TheVariants as event
-use Rattle.sx_names.specs.Numbering.{local_at}
-use Rattle.sx_build.specs.declared.raw.Raw.{Raw}
-use Rattle.sx_build.specs.declared.raw.Raw.TheVariants as raw
+use Rattle.sx_tree.specs.Named.{Name, Attribute}
+use Rattle.sx_build.specs.Asked.{Asked}
+use Rattle.sx_build.specs.Content.{Part, start, end, text, instruction, parts_of}
+use Rattle.sx_build.specs.FixUp.{Binding, Fixed, fix_up, first_bound}
 
--- a local name behind its prefix and a colon, where it has a prefix
-abbrev pub prefixed : List ℕ → List ℕ → List ℕ
-prefixed [] local = local
-prefixed (b ∷ bs) local = (b ∷ bs) ++ 58 ∷ local
+-- a name as it is printed
+abbrev pub printed_name : Name → List ℕ
+printed_name name = prefixed name.prefix name.local
 
--- the name of a label as it is printed
-abbrev pub printed_name : List (List ℕ × List ℕ) → Label → List ℕ
-printed_name names label = prefixed label.prefix (local_at names label.number)
+-- the attribute that declares a namespace
+abbrev pub declaration_name : List ℕ → List ℕ
+declaration_name [] = codes "xmlns"
+declaration_name (b ∷ bs) = prefixed (codes "xmlns") (b ∷ bs)
 
--- the printed names of the open elements, the innermost first, after one event more
-abbrev pub open_after : List (List ℕ × List ℕ) → List (List ℕ) → Raw → List (List ℕ)
-open_after names elements (raw.Start label) = printed_name names label ∷ elements
-open_after names [] raw.End = []
-open_after names (name ∷ elements) raw.End = elements
-open_after names elements (raw.Text text) = elements
+abbrev pub declaration_pairs : List Binding → List Pair
+declaration_pairs [] = []
+declaration_pairs (b ∷ bs) = record { name = declaration_name b.prefix; value = b.uri } ∷ declaration_pairs bs
 
--- a text, where it is not empty
-abbrev pub text_of : List ℕ → List Built
-text_of [] = []
-text_of (b ∷ bs) = event.Text (b ∷ bs) ∷ []
+abbrev pub attribute_pairs : List Attribute → List Pair
+attribute_pairs [] = []
+attribute_pairs (a ∷ rest) = record { name = printed_name a.name; value = a.value } ∷ attribute_pairs rest
 
--- the end of the innermost open element, where one is open
-abbrev pub end_of : List (List ℕ) → List Built
-end_of [] = []
-end_of (name ∷ elements) = event.End name ∷ []
+-- a start as it is printed: what it declares, then its attributes
+abbrev pub printed_start : Name → Fixed → Built
+printed_start name f = event.Start (printed_name name) (declaration_pairs f.declared ++ attribute_pairs f.attributes)
 
--- what one event gives where these elements are open
-abbrev pub gives : List (List ℕ × List ℕ) → List (List ℕ) → Raw → List Built
-gives names elements (raw.Start label) = event.Start (printed_name names label) [] ∷ []
-gives names elements raw.End = end_of elements
-gives names elements (raw.Text text) = text_of text
+-- an open element of a result: its printed name, and the bindings in force in it, the innermost first
+pub record Open : Type 0 where
+  pub name : List ℕ
+  pub bound : List Binding
 
--- what events give in turn where these elements are open before them
-abbrev pub built_in : List (List ℕ × List ℕ) → List (List ℕ) → List Raw → List Built
-built_in names elements [] = []
-built_in names elements (r ∷ raws) = gives names elements r ++ built_in names (open_after names elements r) raws
+-- the bindings in force in the innermost of these elements
+abbrev pub bound_in : List Open → List Binding
+bound_in [] = first_bound
+bound_in (o ∷ os) = o.bound
 
--- the elements that are open after events
-abbrev pub open_in : List (List ℕ × List ℕ) → List (List ℕ) → List Raw → List (List ℕ)
-open_in names elements [] = elements
-open_in names elements (r ∷ raws) = open_in names (open_after names elements r) raws
+-- the open element that starts where these are open
+abbrev pub opened : List Open → Name → Fixed → Open
+opened os name f = record { name = printed_name name; bound = f.declared ++ bound_in os }
 
--- the built events: a start and a text that is not empty as they came, an end with the name of the innermost open element
-abbrev pub built : List (List ℕ × List ℕ) → List Raw → List Built
-built names raws = built_in names [] raws
+-- parts as they are built where these elements are open, the innermost first
+abbrev pub built_in : List Open → List Part → List Built
+built_in os [] = []
+built_in os (start name attributes ∷ ps) =
+    let f = fix_up (bound_in os) name attributes in
+    printed_start name f ∷ built_in (opened os name f ∷ os) ps
+built_in [] (end ∷ ps) = built_in [] ps
+built_in (o ∷ os) (end ∷ ps) = event.End o.name ∷ built_in os ps
+built_in os (text s ∷ ps) = event.Text s ∷ built_in os ps
+built_in os (instruction target content ∷ ps) = event.Pi target content ∷ built_in os ps
 
--- the printed names of the elements that are open after all events, the innermost first
-abbrev pub open_names : List (List ℕ × List ℕ) → List Raw → List (List ℕ)
-open_names names raws = open_in names [] raws
+-- the built events of what is asked for, with a start at the end of it
+abbrev pub built : List Asked → List Built
+built asked = built_in [] (parts_of asked).parts
+
+-- the error of what is asked for: that of the first attribute that is not behind its start
+abbrev pub error_of : List Asked → Option Code
+error_of asked = (parts_of asked).error
 
 -- a start, and nothing else
 abbrev pub is_start : Built → Bool
 is_start (event.Start name pairs) = true
 is_start (event.End name) = false
-is_start (event.Text text) = false
+is_start (event.Text s) = false
 is_start (event.Pi target content) = false
 
 -- the events without a start that is the last
@@ -70,19 +77,7 @@ without_last_start [] = []
 without_last_start (e ∷ []) = if is_start e then [] else e ∷ []
 without_last_start (e ∷ next ∷ es) = e ∷ without_last_start (next ∷ es)
 
--- the built events that are fixed: a start at the end of what has come is withheld, since attributes may follow it,
--- until the content is at its end
-abbrev pub Build : List (List ℕ × List ℕ) → List Raw → Bool → List Built
-Build names raws true = built names raws
-Build names raws false = without_last_start (built names raws)
-
--- the name of an event has a number
-abbrev pub HasNumber : List (List ℕ × List ℕ) → Raw → Type 0
-HasNumber names (raw.Start label) = label.number < length names
-HasNumber names raw.End = Unit {0}
-HasNumber names (raw.Text text) = Unit {0}
-
--- the names of all events have numbers
-abbrev pub HaveNumbers : List (List ℕ × List ℕ) → List Raw → Type 0
-HaveNumbers names [] = Unit {0}
-HaveNumbers names (r ∷ raws) = HasNumber names r × HaveNumbers names raws
+-- The built events that are fixed: a start at the end of what has come is withheld, since attributes may follow it, until
+-- the content is at its end without an error.
+abbrev pub Build : List Asked → Bool → List Built
+Build asked at_end = if at_end && is_none (error_of asked) then built asked else without_last_start (built asked)

@@ -1,38 +1,87 @@
 -- What a builder stands for.
-use Rattle.std.specs.Prelude.{◌≡◌, ℕ, Bool, true, false, ◌⊎◌, List, [], ◌∷◌, ◌++◌, length}
+use Rattle.std.specs.Prelude.{◌≡◌, ℕ, Bool, true, false, ◌⊎◌, List, [], ◌∷◌, ◌++◌, length, take, reverse, Option, Some, None, Result, Ok, Err}
+use Rattle.sx_atoms.specs.declared.error_codes.Code.{Code}
 use Rattle.sx_lines.specs.declared.events.Built.{Built}
-use Rattle.sx_build.specs.declared.raw.Raw.{Raw}
 use Rattle.sx_build.specs.declared.builder.Builder.{Builder}
-use Rattle.sx_build.specs.Build.{built, Build, open_names, HaveNumbers}
+use Rattle.sx_build.specs.declared.builder.Element.{Element}
+use Rattle.sx_build.specs.declared.withheld.Withheld.{Withheld}
+use Rattle.sx_build.specs.Asked.{Asked}
+use Rattle.sx_build.specs.Content.{Held}
+use Rattle.sx_build.specs.FixUp.{Binding}
+use Rattle.sx_build.specs.Build.{Open, printed_name, Build}
+use Rattle.sx_build.specs.Course.{Course, reached}
+use Rattle.sx_build.specs.InForce.{in_force}
+use Rattle.sx_build.specs.Withheld.{Holds}
 
 -- memory was wanting in a push: the builder takes nothing more
 abbrev pub is_spent : Builder → Bool
 is_spent b = b.spent
 
--- a list, the last first
-abbrev pub turned : {X : Type 0} → List X → List X
-turned [] = []
-turned (x ∷ xs) = turned xs ++ x ∷ []
+-- the answer that goes with an error, or with none
+abbrev pub answer_of : Option Code → Result (Unit {0}) Code
+answer_of None = Ok tt
+answer_of (Some c) = Err c
 
--- Nothing is withheld; or one event is, and it stands alone or a list of one event is at hand.
-abbrev pub IsHeld : Bool → List Built → List Built → List Built → Type 0
-IsHeld false fixed held spare = held ≡ []
-IsHeld true fixed held spare = (length held ≡ 1) × ((fixed ≡ []) ⊎ (length spare ≡ 1))
+-- Elements are open, the innermost first, where the bindings that they have declared are these, the innermost last: each has
+-- its printed name, and so many of the bindings are of the elements around it.
+abbrev pub AreOpen : List Open → List Element → List Binding → Type 0
+AreOpen [] [] bindings = bindings ≡ []
+AreOpen [] (e ∷ es) bindings = ⊥
+AreOpen (o ∷ os) [] bindings = ⊥
+AreOpen (o ∷ os) (e ∷ es) bindings = (e.name ≡ o.name) × (o.bound ≡ in_force bindings) × AreOpen os es (take e.begins bindings)
 
--- Of the built events of these, front was given, fixed can be given, and held is withheld; elements are open.
-pub record StandsAs (elements : List (List ℕ)) (pending spare : List Built) (withheld : Bool)
-    (names : List (List ℕ × List ℕ)) (raws : List Raw) (at_end : Bool) (given : ℕ) : Type 0 where
+-- no start is withheld: what is pending is fixed
+pub record HoldsNone (os : List Open) (elements : List Element) (bindings : List Binding) (pending fixed : List Built) : Type 0 where
+  pub are_open : AreOpen os (reverse elements) bindings
+  pub pending_is : pending ≡ fixed
+
+-- A start is withheld: its element is the last, and behind what is fixed a place is kept for it; that place stands alone, or
+-- a list of one event is at hand.
+pub record HoldsOne (os : List Open) (h : Held) (w : Withheld) (elements : List Element) (bindings : List Binding) (pending spare fixed : List Built) : Type 0 where
+  pub rest : List Element
+  pub last : Element
+  pub place : Built
+  pub elements_are : elements ≡ rest ++ last ∷ []
+  pub last_name : last.name ≡ printed_name h.name
+  pub last_begins : last.begins ≡ length bindings
+  pub are_open : AreOpen os (reverse rest) bindings
+  pub holds : Holds (in_force bindings) h w
+  pub pending_is : pending ≡ fixed ++ place ∷ []
+  pub room : (fixed ≡ []) ⊎ (length spare ≡ 1)
+
+abbrev pub HoldsBack : List Open → Option Held → Option Withheld → List Element → List Binding → List Built → List Built → List Built → Type 0
+HoldsBack os None None elements bindings pending spare fixed = HoldsNone os elements bindings pending fixed
+HoldsBack os None (Some w) elements bindings pending spare fixed = ⊥
+HoldsBack os (Some h) None elements bindings pending spare fixed = ⊥
+HoldsBack os (Some h) (Some w) elements bindings pending spare fixed = HoldsOne os h w elements bindings pending spare fixed
+
+-- where these elements are open and this start is held, this is fixed and was not given
+abbrev pub Withholds : List Open → Option Held → Builder → List Built → Type 0
+Withholds os held b fixed = HoldsBack os held b.withheld b.elements b.bindings.items b.pending b.spare fixed
+
+-- what building has come to, and what is fixed and was not given
+pub record KeepsTo (c : Course) (b : Builder) (fixed : List Built) : Type 0 where
+  pub withholds : Withholds c.elements c.held b fixed
+  pub behind_is : b.behind_atom ≡ c.behind_atom
+  pub error_is : b.error ≡ c.error
+
+-- it was told that the content is at its end: nothing is withheld
+pub record IsEnded (b : Builder) (fixed : List Built) : Type 0 where
+  pub none_withheld : b.withheld ≡ None
+  pub pending_is : b.pending ≡ fixed
+
+abbrev pub KeepsAt : Bool → List Asked → Builder → List Built → Type 0
+KeepsAt false asked b fixed = KeepsTo (reached asked) b fixed
+KeepsAt true asked b fixed = IsEnded b fixed
+
+-- of the built events of what was asked for, front was given, and fixed can be given
+pub record StandsFor (b : Builder) (asked : List Asked) (at_end : Bool) (given : ℕ) : Type 0 where
   pub front : List Built
   pub fixed : List Built
-  pub held : List Built
   pub count : length front ≡ given
-  pub pending_is : pending ≡ fixed ++ held
-  pub held_is : IsHeld withheld fixed held spare
-  pub whole : (front ++ fixed) ++ held ≡ built names raws
-  pub due : front ++ fixed ≡ Build names raws at_end
-  pub elements_are : elements ≡ turned (open_names names raws)
-  pub numbered : HaveNumbers names raws
+  pub due : front ++ fixed ≡ Build asked at_end
+  pub keeps : KeepsAt at_end asked b fixed
 
--- After these events, and after it was or was not told that the content is at its end, the builder has given so many.
-abbrev pub Stands : Builder → List (List ℕ × List ℕ) → List Raw → Bool → ℕ → Type 0
-Stands b names raws at_end given = StandsAs b.elements b.pending b.spare b.withheld names raws at_end given
+-- After this was asked for, and after it was or was not told that the content is at its end, the builder has given so many.
+abbrev pub Stands : Builder → List Asked → Bool → ℕ → Type 0
+Stands b asked at_end given = StandsFor b asked at_end given

@@ -1,2 +1,9 @@
+pub mod Asked
+pub mod Content
+pub mod FixUp
 pub mod Build
+pub mod Course
+pub mod InForce
+pub mod Kept
+pub mod Withheld
 pub mod Builder

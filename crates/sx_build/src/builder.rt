@@ -1,69 +1,58 @@
 // The builder: what is asked for in, the built events out.
-ghost use Rattle.std.specs.Prelude.{◌≡◌, ◌<◌, [], ◌∷◌, ◌++◌, ℕ, List, Bool, true, false, length, drop, IsErr, OnOk, OnErr, IfOk};
+ghost use Rattle.std.specs.Prelude.{◌≡◌, [], ◌∷◌, ◌++◌, ℕ, List, Bool, true, false, length, drop, reverse, Option, None, IsErr, OnOk, OnErr, IfOk};
+ghost use Rattle.sx_lines.specs.declared.events.Built.{Built as Event};
 ghost use Rattle.sx_lines.specs.declared.events.Built.TheVariants as event;
-ghost use Rattle.sx_build.specs.declared.raw.Raw.{Raw as Request};
-ghost use Rattle.sx_build.specs.declared.raw.Raw.TheVariants as raw;
-ghost use Rattle.sx_names.specs.Numbering.{local_at};
-ghost use Rattle.sx_build.specs.Build.{printed_name};
+ghost use Rattle.sx_tree.specs.Named.{name_at, attribute_at};
+ghost use Rattle.sx_build.specs.Asked.{Asked, starts, ends, has, says, prints, instructs, asked_at};
+ghost use Rattle.sx_build.specs.Content.{spaced};
 
 use crate::Raw;
+use crate::bindings::Binding;
+use crate::withheld::Withheld;
 use sqlite_items::Items;
 use std::alloc::{AllocError, Global};
 use std::mem;
+use sx_atoms::Code;
 use sx_lines::{Built, Builts};
 use sx_names::Names;
-use sx_tree::{Chars, Label};
+use sx_tree::{Attr, Chars, Label};
 
-/// Builds a result as it is asked for. What is fixed can be given; a start at the end is withheld.
+/// An open element of a result.
+#[doc(hidden)]
+#[derive(Drop)]
+pub struct Element {
+    // its name as it is printed
+    name: Chars,
+    // how many bindings the elements around it have declared
+    begins: usize,
+}
+
+/// Builds a result as it is asked for. What is fixed can be given; a start at the end is withheld, since attributes may
+/// follow it.
 ///
-/// Contracts say by `Stands` after which events it stands, and how many built events it has given.
+/// Contracts say by `Stands` after which requests it stands, and how many built events it has given.
 #[derive(Drop)]
 pub struct Builder {
     alloc: Global,
-    // the printed names of the open elements, the outermost first
-    elements: Items<Chars>,
-    // what was not given yet, with the withheld start behind it
+    // the open elements, the outermost first
+    elements: Items<Element>,
+    // what they have declared but the one whose start is withheld, the innermost last
+    bindings: Vec<Binding>,
+    // what was not given yet, with a place for the withheld start behind it
     pending: Builts,
-    // a list of one event, whatever it is: it takes the withheld start where what stands before that is given, which so
+    // a list of one event, whatever it is: the place of the withheld start where what stands before it is given, which so
     // takes no memory
     spare: Builts,
-    withheld: bool,
+    withheld: Option<Withheld>,
+    // whether an atom came last
+    behind_atom: bool,
+    error: Option<Code>,
     spent: bool,
 }
 
-// The local name with this number, or the empty text where no name has it.
-fn local_name(names: &Names, number: u64) -> &str
-    ensures { result.now ≡ local_at names.now number }
-{
-    if !names.has(number) {
-        return "";
-    }
-    names.local(number)
-}
-
-// The printed name of a label.
-fn print_name(alloc: Global, label: &Label, names: &Names) -> Result<Chars, AllocError>
-    ensures { IfOk result (λ name. name ≡ printed_name names.now label.now) }
-{
-    let local = local_name(names, label.number);
-    let prefix = label.prefix.as_str();
-    if prefix.is_empty() {
-        return Chars::copy(alloc, local);
-    }
-    let mut name = String::from_str(alloc, prefix)?;
-    name.push_str(":")?;
-    name.push_str(local)?;
-    Chars::copy(alloc, name.as_str())
-}
-
-// The start of an element that has no attributes.
-fn start_of(alloc: Global, name: &str) -> Result<Built, AllocError>
-    ensures { IfOk result (λ e. e ≡ event.Start name.now []) }
-{
-    Ok(Built::Start {
-        name: Chars::copy(alloc, name)?,
-        pairs: Items::new(alloc),
-    })
+// An event that stands for none.
+fn placeholder(alloc: Global) -> Built {
+    Built::Text(Chars::new(alloc))
 }
 
 // A list of one event.
@@ -75,42 +64,75 @@ fn one(alloc: Global, e: Built) -> Result<Builts, AllocError>
     Ok(events)
 }
 
-// A list of one event holds this one instead.
-fn hold(list: &mut Builts, e: Built)
-    ensures { length list.old ≡ 1 → list.new ≡ e ∷ [] }
+// The last of some events is this one instead.
+fn set_last(events: &mut Builts, e: Built)
+    ensures { (rest : List Event) (last : Event) → events.old ≡ rest ++ last ∷ [] → events.new ≡ rest ++ e ∷ [] }
 {
-    if !list.is_empty() {
-        list.set(0, e);
+    let count = events.len();
+    if count > 0 {
+        events.set(count - 1, e);
     }
 }
 
+// Bindings that an element has declared, in order, go behind those of the elements around it, the first at the end.
+fn bind_all(bindings: &mut Vec<Binding>, mut declared: Vec<Binding>) -> Result<(), AllocError>
+    ensures { OnOk result (bindings.new.items ≡ bindings.old.items ++ reverse declared.items) }
+{
+    while let Some(binding) = declared.pop() {
+        bindings.push(binding)?;
+    }
+    Ok(())
+}
+
+// The print of an atom, with a space before it where an atom came before.
+fn print_atom(alloc: Global, behind_atom: bool, print: &str) -> Result<Chars, AllocError>
+    ensures { IfOk result (λ text. text ≡ spaced behind_atom print.now) }
+{
+    if !behind_atom {
+        return Chars::copy(alloc, print);
+    }
+    let mut text = String::from_str(alloc, " ")?;
+    text.push_str(print)?;
+    Chars::copy(alloc, text.as_str())
+}
+
 impl Builder {
-    ghost use Rattle.sx_build.specs.Build.{Build, HasNumber};
-    ghost use Rattle.sx_names.specs.Numbering.{KeepsPlaces};
-    ghost use Rattle.sx_build.specs.Builder.{Stands, is_spent};
+    ghost use Rattle.sx_build.specs.Content.{misplaced};
+    ghost use Rattle.sx_build.specs.Build.{Build, Open, error_of};
+    ghost use Rattle.sx_build.specs.Content.{Held as HeldStart};
+    ghost use Rattle.sx_build.specs.Course.{Course, at_work, gives, gives_in, after, after_in, held_start, with_held, text_gives, after_text};
+    ghost use Rattle.sx_build.specs.Builder.{Stands, Withholds, KeepsTo, answer_of, is_spent};
 
     /// A builder that nothing was asked of. It takes no memory.
     pub fn new(alloc: Global) -> Builder
-        ensures stands { (names : List (List ℕ × List ℕ)) → Stands result names [] false 0 }
+        ensures stands { Stands result [] false 0 }
         ensures spent { is_spent result ≡ false }
     {
         Builder {
             alloc,
             elements: Items::new(alloc),
+            bindings: Vec::new(alloc),
             pending: Items::new(alloc),
             spare: Items::new(alloc),
-            withheld: false,
+            withheld: None,
+            behind_atom: false,
+            error: None,
             spent: false,
         }
     }
 
-    /// Takes what comes next, where `finish` was not called. It stands by the names that its caller knew, where
-    /// those of now keep their places. An empty text gives nothing, and neither does an end where no element is open.
+    /// Takes what comes next, where `finish` was not called. Names are those of this table. An empty text gives nothing, and
+    /// neither does an end where no element is open.
+    ///
+    /// An attribute that stands behind anything else than its start is an error, XTDE0410, or XTDE0420 where no element is
+    /// open (XSLT 3.0, 5.7.1). Each later push answers the same, and what is given stays.
+    ///
     /// After an `AllocError` the builder is spent: each later push answers one, and what it gives is not said.
-    pub fn push(&mut self, raw: Raw, names: &Names) -> Result<(), AllocError>
-        ensures ok { OnOk result ((known : List (List ℕ × List ℕ)) (raws : List Request) (given : ℕ)
-            → KeepsPlaces known names.now → HasNumber known raw
-            → Stands self.old known raws false given → Stands self.new known (raws ++ raw ∷ []) false given) }
+    pub fn push(&mut self, raw: Raw, names: &Names) -> Result<Result<(), Code>, AllocError>
+        ensures stands { OnOk result ((asked : List Asked) (given : ℕ) → Stands self.old asked false given
+            → Stands self.new (asked ++ asked_at names.now raw ∷ []) false given) }
+        ensures answer { IfOk result (λ answer. (asked : List Asked) (given : ℕ) → Stands self.old asked false given
+            → answer ≡ answer_of (error_of (asked ++ asked_at names.now raw ∷ []))) }
         ensures err { OnErr result (is_spent self.new ≡ true) }
         ensures spent { is_spent self.old ≡ true → IsErr result }
         ensures kept { OnOk result (is_spent self.new ≡ is_spent self.old) }
@@ -119,7 +141,7 @@ impl Builder {
             return Err(AllocError);
         }
         match self.take(raw, names) {
-            Ok(()) => Ok(()),
+            Ok(()) => Ok(self.answer()),
             Err(error) => {
                 self.spent = true;
                 Err(error)
@@ -127,118 +149,194 @@ impl Builder {
         }
     }
 
-    // Takes what comes next.
+    // What a push answers: the error, if there is one.
+    fn answer(&self) -> Result<(), Code>
+        ensures { result ≡ answer_of self.now.error }
+    {
+        match self.error {
+            Some(code) => Err(code),
+            None => Ok(()),
+        }
+    }
+
+    // Takes what comes next, unless there was an error.
     fn take(&mut self, raw: Raw, names: &Names) -> Result<(), AllocError>
-        ensures ok { OnOk result ((known : List (List ℕ × List ℕ)) (raws : List Request) (given : ℕ)
-            → KeepsPlaces known names.now → HasNumber known raw
-            → Stands self.old known raws false given → Stands self.new known (raws ++ raw ∷ []) false given) }
+        ensures keeps { OnOk result ((c : Course) (fixed : List Event) → KeepsTo c self.old fixed
+            → KeepsTo (after c (asked_at names.now raw)) self.new (fixed ++ gives c (asked_at names.now raw))) }
+        ensures kept { OnOk result (is_spent self.new ≡ is_spent self.old) }
+    {
+        if self.error.is_some() {
+            return Ok(());
+        }
+        self.take_next(raw, names)
+    }
+
+    // Takes what comes next.
+    fn take_next(&mut self, raw: Raw, names: &Names) -> Result<(), AllocError>
+        ensures keeps { OnOk result ((os : List Open) (held : Option HeldStart) (behind_atom : Bool) (fixed : List Event) → KeepsTo (at_work os held behind_atom) self.old fixed
+            → KeepsTo (after_in os held behind_atom (asked_at names.now raw)) self.new (fixed ++ gives_in os held behind_atom (asked_at names.now raw))) }
         ensures kept { OnOk result (is_spent self.new ≡ is_spent self.old) }
     {
         match raw {
-            Raw::Start(label) => self.take_start(&label, names),
+            Raw::Start(label) => self.take_start(label, names),
             Raw::End => self.take_end(),
-            Raw::Text(text) => self.take_text(text),
+            Raw::Attr(attr) => self.take_attribute(attr, names),
+            Raw::Text(text) => self.take_text(text, false),
+            Raw::Atom(text) => {
+                let text = print_atom(self.alloc, self.behind_atom, text.as_str())?;
+                self.take_text(text, true)
+            }
+            Raw::Pi { target, content } => self.take_event(Built::Pi { target, content }, false),
+        }
+    }
+
+    // The withheld start is fixed, if there is one.
+    fn settle(&mut self) -> Result<(), AllocError>
+        ensures settles { OnOk result ((os : List Open) (held : Option HeldStart) (fixed : List Event) → Withholds os held self.old fixed
+            → Withholds (with_held os held) None self.new (fixed ++ held_start os held)) }
+        ensures behind_atom { self.new.behind_atom ≡ self.old.behind_atom }
+        ensures error { self.new.error ≡ self.old.error }
+        ensures spent { self.new.spent ≡ self.old.spent }
+    {
+        match self.withheld.take() {
+            None => Ok(()),
+            Some(start) => {
+                let (event, declared) = start.into_parts();
+                set_last(&mut self.pending, event);
+                bind_all(&mut self.bindings, declared)
+            }
         }
     }
 
     // An element begins. Its start is withheld.
-    fn take_start(&mut self, label: &Label, names: &Names) -> Result<(), AllocError>
-        ensures ok { OnOk result ((known : List (List ℕ × List ℕ)) (raws : List Request) (given : ℕ)
-            → KeepsPlaces known names.now → label.now.number < length known
-            → Stands self.old known raws false given
-            → Stands self.new known (raws ++ raw.Start label.now ∷ []) false given) }
+    fn take_start(&mut self, label: Label, names: &Names) -> Result<(), AllocError>
+        ensures keeps { OnOk result ((os : List Open) (held : Option HeldStart) (behind_atom : Bool) (fixed : List Event) → KeepsTo (at_work os held behind_atom) self.old fixed
+            → KeepsTo (after_in os held behind_atom (starts (name_at names.now label))) self.new (fixed ++ gives_in os held behind_atom (starts (name_at names.now label)))) }
         ensures kept { OnOk result (is_spent self.new ≡ is_spent self.old) }
     {
-        let name = print_name(self.alloc, label, names)?;
+        self.settle()?;
         self.prepare()?;
-        self.pending.push(start_of(self.alloc, name.as_str())?)?;
-        self.elements.push(name)?;
-        self.withheld = true;
+        let start = Withheld::new(self.alloc, label, names, &self.bindings)?;
+        let name = Chars::copy(self.alloc, start.name())?;
+        let begins = self.bindings.len();
+        self.elements.push(Element { name, begins })?;
+        self.pending.push(placeholder(self.alloc))?;
+        self.withheld = Some(start);
+        self.behind_atom = false;
         Ok(())
     }
 
     // A list of one event is at hand.
     fn prepare(&mut self) -> Result<(), AllocError>
         ensures spare { OnOk result (length self.new.spare ≡ 1) }
-        ensures pending { self.new.pending ≡ self.old.pending }
-        ensures elements { self.new.elements ≡ self.old.elements }
-        ensures withheld { self.new.withheld ≡ self.old.withheld }
-        ensures spent { self.new.spent ≡ self.old.spent }
+        ensures kept { self.new ≡ record self.old { spare = self.new.spare } }
     {
         if self.spare.len() != 1 {
-            self.spare = one(self.alloc, Built::Text(Chars::new(self.alloc)))?;
+            self.spare = one(self.alloc, placeholder(self.alloc))?;
         }
         Ok(())
     }
 
     // The innermost open element ends, if one is open.
     fn take_end(&mut self) -> Result<(), AllocError>
-        ensures ok { OnOk result ((names : List (List ℕ × List ℕ)) (raws : List Request) (given : ℕ)
-            → Stands self.old names raws false given → Stands self.new names (raws ++ raw.End ∷ []) false given) }
+        ensures keeps { OnOk result ((os : List Open) (held : Option HeldStart) (behind_atom : Bool) (fixed : List Event) → KeepsTo (at_work os held behind_atom) self.old fixed
+            → KeepsTo (after_in os held behind_atom ends) self.new (fixed ++ gives_in os held behind_atom ends)) }
         ensures kept { OnOk result (is_spent self.new ≡ is_spent self.old) }
     {
+        self.settle()?;
+        self.behind_atom = false;
         match self.elements.pop() {
-            Some(name) => {
-                self.settle(Built::End { name })?;
+            Some(Element { name, begins }) => {
+                self.bindings.truncate(begins);
+                self.pending.push(Built::End { name })?;
                 Ok(())
             }
             None => Ok(()),
         }
     }
 
-    // A text comes, which may be empty.
-    fn take_text(&mut self, text: Chars) -> Result<(), AllocError>
-        ensures ok { OnOk result ((names : List (List ℕ × List ℕ)) (raws : List Request) (given : ℕ)
-            → Stands self.old names raws false given → Stands self.new names (raws ++ raw.Text text ∷ []) false given) }
+    // An attribute comes. Where no start is withheld, that is an error.
+    fn take_attribute(&mut self, attr: Attr, names: &Names) -> Result<(), AllocError>
+        ensures keeps { OnOk result ((os : List Open) (held : Option HeldStart) (behind_atom : Bool) (fixed : List Event) → KeepsTo (at_work os held behind_atom) self.old fixed
+            → KeepsTo (after_in os held behind_atom (has (attribute_at names.now attr))) self.new (fixed ++ gives_in os held behind_atom (has (attribute_at names.now attr)))) }
+        ensures kept { OnOk result (is_spent self.new ≡ is_spent self.old) }
+    {
+        self.behind_atom = false;
+        match &mut self.withheld {
+            Some(start) => start.add(self.alloc, attr, names, &self.bindings),
+            None => {
+                self.error = Some(self.misplaced());
+                Ok(())
+            }
+        }
+    }
+
+    // The error of an attribute that stands behind anything else than its start.
+    fn misplaced(&self) -> Code
+        ensures { result ≡ misplaced (length self.now.elements) }
+    {
+        if self.elements.is_empty() {
+            Code::Xtde0420
+        } else {
+            Code::Xtde0410
+        }
+    }
+
+    // A text comes, which may be empty, and may be an atom.
+    fn take_text(&mut self, text: Chars, is_atom: bool) -> Result<(), AllocError>
+        ensures keeps { OnOk result ((os : List Open) (held : Option HeldStart) (behind_atom : Bool) (fixed : List Event) → KeepsTo (at_work os held behind_atom) self.old fixed
+            → KeepsTo (after_text os held is_atom text) self.new (fixed ++ text_gives os held text)) }
         ensures kept { OnOk result (is_spent self.new ≡ is_spent self.old) }
     {
         if text.as_str().is_empty() {
+            self.behind_atom = is_atom;
             return Ok(());
         }
-        self.settle(Built::Text(text))?;
-        Ok(())
+        self.take_event(Built::Text(text), is_atom)
     }
 
-    // An event is fixed, and with it what was withheld.
-    fn settle(&mut self, e: Built) -> Result<(), AllocError>
-        ensures pending { OnOk result (self.new.pending ≡ self.old.pending ++ e ∷ []) }
-        ensures elements { self.new.elements ≡ self.old.elements }
-        ensures withheld { OnOk result (self.new.withheld ≡ false) }
-        ensures spent { self.new.spent ≡ self.old.spent }
+    // An event comes that is no start and no end, and with it the withheld start is fixed.
+    fn take_event(&mut self, e: Built, is_atom: bool) -> Result<(), AllocError>
+        ensures keeps { OnOk result ((os : List Open) (held : Option HeldStart) (behind_atom : Bool) (fixed : List Event) → KeepsTo (at_work os held behind_atom) self.old fixed
+            → KeepsTo (at_work (with_held os held) None is_atom) self.new (fixed ++ (held_start os held ++ e ∷ []))) }
+        ensures kept { OnOk result (is_spent self.new ≡ is_spent self.old) }
     {
+        self.settle()?;
         self.pending.push(e)?;
-        self.withheld = false;
+        self.behind_atom = is_atom;
         Ok(())
     }
 
     /// Is told that the content is at its end: a withheld start is fixed. It takes no memory.
     pub fn finish(&mut self)
-        ensures stands { (names : List (List ℕ × List ℕ)) (raws : List Request) (given : ℕ) → Stands self.old names raws false given → Stands self.new names raws true given }
+        ensures stands { (asked : List Asked) (given : ℕ) → Stands self.old asked false given → Stands self.new asked true given }
         ensures spent { is_spent self.new ≡ is_spent self.old }
     {
-        self.withheld = false;
+        match self.withheld.take() {
+            Some(start) => {
+                let (event, _) = start.into_parts();
+                set_last(&mut self.pending, event);
+            }
+            None => {}
+        }
     }
 
     /// What is fixed and was not given yet, in order. It takes no memory.
     pub fn drain(&mut self) -> Builts
-        ensures gives { (names : List (List ℕ × List ℕ)) (raws : List Request) (at_end : Bool) (given : ℕ) → Stands self.old names raws at_end given
-            → result ≡ drop given (Build names raws at_end) }
-        ensures stands { (names : List (List ℕ × List ℕ)) (raws : List Request) (at_end : Bool) (given : ℕ) → Stands self.old names raws at_end given
-            → Stands self.new names raws at_end (length (Build names raws at_end)) }
+        ensures gives { (asked : List Asked) (at_end : Bool) (given : ℕ) → Stands self.old asked at_end given → result ≡ drop given (Build asked at_end) }
+        ensures stands { (asked : List Asked) (at_end : Bool) (given : ℕ) → Stands self.old asked at_end given
+            → Stands self.new asked at_end (length (Build asked at_end)) }
         ensures spent { is_spent self.new ≡ is_spent self.old }
     {
-        if !self.withheld {
+        if self.withheld.is_none() {
             return mem::replace(&mut self.pending, Items::new(self.alloc));
         }
         if self.pending.len() == 1 {
             return Items::new(self.alloc);
         }
-        let spare = mem::replace(&mut self.spare, Items::new(self.alloc));
-        let mut fixed = mem::replace(&mut self.pending, spare);
-        match fixed.pop() {
-            Some(start) => hold(&mut self.pending, start),
-            None => {}
-        }
+        let place = mem::replace(&mut self.spare, Items::new(self.alloc));
+        let mut fixed = mem::replace(&mut self.pending, place);
+        fixed.pop();
         fixed
     }
 }

@@ -27,10 +27,10 @@ place_none p s none = at (ltb (position_or_len p s) (length s)) refl none
     at true e none = cc
     at false e none = grind (arith, nat_tests)
 
-take_one_more : (n x : ℕ) (xs : List ℕ) → take (1 + n) (x ∷ xs) ≡ x ∷ take n xs
+pub take_one_more : (n x : ℕ) (xs : List ℕ) → take (1 + n) (x ∷ xs) ≡ x ∷ take n xs
 take_one_more n x xs = ap (λ (m : ℕ). take m (x ∷ xs)) (let e : 1 + n ≡ suc n = omega arith in e)
 
-drop_one_more : (n x : ℕ) (xs : List ℕ) → drop (1 + n) (x ∷ xs) ≡ drop n xs
+pub drop_one_more : (n x : ℕ) (xs : List ℕ) → drop (1 + n) (x ∷ xs) ≡ drop n xs
 drop_one_more n x xs = ap (λ (m : ℕ). drop m (x ∷ xs)) (let e : 1 + n ≡ suc n = omega arith in e)
 
 module _ (p : ℕ → Bool) (F : List ℕ → List ℕ) (none : F [] ≡ []) where

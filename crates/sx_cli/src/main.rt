@@ -5,7 +5,8 @@ use std::env;
 use std::io::{Error, ErrorKind};
 use std::process::ExitCode;
 use sx_desk::RealDesk;
-use sx_top::{Status, top};
+use sx_reading::Status;
+use sx_top::top;
 
 // Memory was wanting, or a word is no text.
 fn status_of(error: &Error) -> Status {

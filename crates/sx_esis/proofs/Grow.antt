@@ -1,33 +1,35 @@
 -- More bytes only add lines, and behind a fault they change nothing.
-use Rattle.std.proofs.Common.{◌≡◌, ℕ, ◌+◌, ◌<◌, Bool, true, false, List, [], ◌∷◌, ◌++◌, length, Option, Some, None, refl, ap, sym, ◌∙◌, subst, cond, ltb, append-nil, arith, length-append}
+use Rattle.std.proofs.Common.{◌≡◌, ℕ, ◌<◌, Bool, true, false, List, [], ◌∷◌, ◌++◌, length, Option, Some, None, Result, Ok, Err, refl, ap, sym, ◌∙◌, subst, cond, ltb, append-nil, arith, length-append}
 use Rattle.std.specs.Option.{option_map}
 use Rattle.std.proofs.lemmas.Bool.{ltb-true, lt-ltb}
-use Rattle.sx_esis.specs.Lines.{Cut, cut, Line, Reading, nothing_more, fault_here, in_front, line_within, line_of, reading_of, last_line, rest_reading, lines_of}
+use Rattle.sx_esis.specs.declared.faults.LineWhich.{LineWhich}
+use Rattle.sx_esis.specs.declared.faults.LineWhich.TheVariants as which
+use Rattle.sx_esis.specs.Lines.{Cut, cut, Line, Fault, Reading, nothing_more, fault_here, one_later, in_front, line_within, line_of, reading_of, last_line, rest_reading, lines_of}
 use Rattle.sx_esis.proofs.Cuts.{joined, cut-append}
 
 -- a reading that goes on from another one
 pub record Grows (r s : Reading) : Type 0 where
   pub more : List Line
   pub lines : s.lines ≡ r.lines ++ more
-  pub stays : (n : ℕ) → r.fault ≡ Some n → s ≡ r
+  pub stays : (f : Fault) → r.fault ≡ Some f → s ≡ r
 
 grows_same : (r : Reading) → Grows r r
-grows_same r = record { more = []; lines = sym (append-nil r.lines); stays = λ n e. refl }
+grows_same r = record { more = []; lines = sym (append-nil r.lines); stays = λ f e. refl }
 
 grows_none : (s : Reading) → Grows nothing_more s
-grows_none s = record { more = s.lines; lines = refl; stays = λ n e. cc }
+grows_none s = record { more = s.lines; lines = refl; stays = λ f e. cc }
 
-grows_front : (o : Option Line) (r s : Reading) → Grows r s → Grows (in_front o r) (in_front o s)
-grows_front None r s g = grows_same fault_here
-grows_front (Some line) r s g = record {
+grows_front : (o : Result Line LineWhich) (r s : Reading) → Grows r s → Grows (in_front o r) (in_front o s)
+grows_front (Err w) r s g = grows_same (fault_here w)
+grows_front (Ok line) r s g = record {
   more = g.more;
   lines = ap (λ (ls : List Line). line ∷ ls) g.lines;
-  stays = λ n e. front r.fault n e g.stays;
+  stays = λ f e. front r.fault f e g.stays;
 }
   where
-    front : (f : Option ℕ) (n : ℕ) → option_map (λ (k : ℕ). k + 1) f ≡ Some n → ((m : ℕ) → f ≡ Some m → s ≡ r) → in_front (Some line) s ≡ in_front (Some line) r
-    front None n e same = cc
-    front (Some m) n e same = ap (in_front (Some line)) (same m refl)
+    front : (known : Option Fault) (f : Fault) → option_map one_later known ≡ Some f → ((m : Fault) → known ≡ Some m → s ≡ r) → in_front (Ok line) s ≡ in_front (Ok line) r
+    front None f e same = cc
+    front (Some m) f e same = ap (in_front (Ok line)) (same m refl)
 
 grows_lines : (limit : ℕ) (lines : List (List ℕ)) (r s : Reading) → Grows r s → Grows (reading_of limit lines r) (reading_of limit lines s)
 grows_lines limit [] r s g = g
@@ -49,20 +51,20 @@ reading-joined limit lines rest (line ∷ more) last ended = reading-append limi
 pub still_long : (limit : ℕ) (s t : List ℕ) → ltb limit (length s) ≡ true → ltb limit (length (s ++ t)) ≡ true
 still_long limit s t long = let over : limit < length s = ltb-true limit (length s) long in lt-ltb limit (length (s ++ t)) (omega (arith, length-append s t))
 
-pub long_line : (limit : ℕ) (line : List ℕ) → ltb limit (length line) ≡ true → line_within limit line ≡ None
-long_line limit line long = ap (λ (v : Bool). cond v None (line_of line)) long
+pub long_line : (limit : ℕ) (line : List ℕ) → ltb limit (length line) ≡ true → line_within limit line ≡ Err which.Line
+long_line limit line long = ap (λ (v : Bool). cond v (Err which.Line) (line_of line)) long
 
-pub long_rest : (limit : ℕ) (rest : List ℕ) (ended : Bool) → ltb limit (length rest) ≡ true → rest_reading limit rest ended ≡ fault_here
-long_rest limit rest ended long = ap (λ (v : Bool). cond v fault_here (cond ended (last_line limit rest) nothing_more)) long
+pub long_rest : (limit : ℕ) (rest : List ℕ) (ended : Bool) → ltb limit (length rest) ≡ true → rest_reading limit rest ended ≡ fault_here which.Line
+long_rest limit rest ended long = ap (λ (v : Bool). cond v (fault_here which.Line) (cond ended (last_line limit rest) nothing_more)) long
 
 -- a rest that is too long is at fault whatever comes behind it
-pub long_behind : (limit : ℕ) (rest : List ℕ) (more : List (List ℕ)) (last : List ℕ) (ended : Bool) → ltb limit (length rest) ≡ true → reading_behind limit rest more last ended ≡ fault_here
+pub long_behind : (limit : ℕ) (rest : List ℕ) (more : List (List ℕ)) (last : List ℕ) (ended : Bool) → ltb limit (length rest) ≡ true → reading_behind limit rest more last ended ≡ fault_here which.Line
 long_behind limit rest [] last ended long = long_rest limit (rest ++ last) ended (still_long limit rest last long)
 long_behind limit rest (line ∷ more) last ended long =
-    ap (λ (o : Option Line). in_front o (reading_of limit more (rest_reading limit last ended))) (long_line limit (rest ++ line) (still_long limit rest line long))
+    ap (λ (o : Result Line LineWhich). in_front o (reading_of limit more (rest_reading limit last ended))) (long_line limit (rest ++ line) (still_long limit rest line long))
 
-grows_rest : (long : Bool) (s : Reading) → (long ≡ true → s ≡ fault_here) → Grows (cond long fault_here nothing_more) s
-grows_rest true s same = subst (λ (t : Reading). Grows fault_here t) (sym (same refl)) (grows_same fault_here)
+grows_rest : (long : Bool) (s : Reading) → (long ≡ true → s ≡ fault_here which.Line) → Grows (cond long (fault_here which.Line) nothing_more) s
+grows_rest true s same = subst (λ (t : Reading). Grows (fault_here which.Line) t) (sym (same refl)) (grows_same (fault_here which.Line))
 grows_rest false s same = grows_none s
 
 pub lines_grow : (limit : ℕ) (b d : List ℕ) (ended : Bool) → Grows (lines_of limit b false) (lines_of limit (b ++ d) ended)
@@ -79,5 +81,5 @@ pub reading_grows : (limit : ℕ) (b d : List ℕ) (ended : Bool) → (more : Li
 reading_grows limit b d ended = let grown = lines_grow limit b d ended in (grown.more, grown.lines)
 
 -- Where a fault is known, more bytes change nothing.
-pub fault_stays : (limit : ℕ) (b d : List ℕ) (ended : Bool) (n : ℕ) → (lines_of limit b false).fault ≡ Some n → lines_of limit (b ++ d) ended ≡ lines_of limit b false
-fault_stays limit b d ended n fault = (lines_grow limit b d ended).stays n fault
+pub fault_stays : (limit : ℕ) (b d : List ℕ) (ended : Bool) (f : Fault) → (lines_of limit b false).fault ≡ Some f → lines_of limit (b ++ d) ended ≡ lines_of limit b false
+fault_stays limit b d ended f met = (lines_grow limit b d ended).stays f met

@@ -2,5 +2,11 @@ pub mod Cuts
 pub mod Grow
 pub mod NextLemmas
 pub mod ReaderLemmas
-pub mod FormLemmas
 pub mod BufferLemmas
+pub mod PartLemmas
+pub mod PlaceLemmas
+pub mod NumberLemmas
+pub mod EscapeLemmas
+pub mod ReplaceLemmas
+pub mod TextLemmas
+pub mod FormLemmas

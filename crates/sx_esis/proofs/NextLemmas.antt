@@ -1,8 +1,9 @@
 -- What a reader becomes that went on and lends the line.
-use Rattle.std.proofs.Common.{◌≡◌, ℕ, ◌<◌, Bool, List, Option, Some, None, Result, Ok, Err, sym, ◌∙◌, subst}
+use Rattle.std.proofs.Common.{◌≡◌, ℕ, ◌<◌, Bool, List, Option, Some, None, Result, Ok, Err, ap, sym, ◌∙◌, subst}
 use Rattle.sx_esis.specs.declared.reader.LineReader.{LineReader}
-use Rattle.sx_esis.specs.declared.reader.LineFault.{LineFault}
+use Rattle.sx_esis.specs.declared.faults.LineFault.{LineFault}
 use Rattle.sx_esis.specs.declared.reader.LineView.{LineView}
+use Rattle.sx_esis.specs.Lines.{Line}
 use Rattle.sx_esis.specs.Stands.{Stands, line_shown, unread}
 use Rattle.sx_esis.specs.Gives.{Advances, Follows, IsLineGiven, view_line}
 
@@ -11,12 +12,12 @@ pub record Went (old new : LineReader) (r : Option (Result Unit LineFault)) : Ty
   pub gives : (limit : ℕ) (bytes : List ℕ) (ended : Bool) (given : ℕ) → Stands old limit bytes ended given → Advances limit bytes ended given new r
   pub progress : IsLineGiven r → unread new < unread old
 
-pub follows_line : (old new : LineReader) (r : Option (Result Unit LineFault)) (view : LineView) → r ≡ Some (Ok tt) → Went old new r → Some (view_line view) ≡ line_shown new → Follows old (Some (Ok view)) new
+pub follows_line : (old new : LineReader) (r : Option (Result Unit LineFault)) (view : LineView) → r ≡ Some (Ok tt) → Went old new r → view_line view ≡ line_shown new → Follows old (Some (Ok view)) new
 follows_line old new r view is went shows = line (subst (λ (v : Option (Result Unit LineFault)). Went old new v) is went)
   where
     line : Went old new (Some (Ok tt)) → Follows old (Some (Ok view)) new
     line w = record {
-      gives = λ limit bytes ended given stands. let a = w.gives limit bytes ended given stands in (sym a.0 ∙ sym shows, a.1);
+      gives = λ limit bytes ended given stands. let a = w.gives limit bytes ended given stands in (a.0 ∙ ap (λ (l : Line). Some l) (sym shows), a.1);
       progress = w.progress;
     }
 

@@ -1,16 +1,18 @@
 -- What a reader stands for as it takes one line.
-use Rattle.std.proofs.Common.{◌≡◌, ℕ, ◌+◌, ◌<◌, ◌≤◌, Bool, true, false, List, [], ◌∷◌, ◌++◌, length, take, drop, Option, Some, None, Result, Ok, Err, IsSome, refl, ap, sym, ◌∙◌, subst, cond, ltb, append-nil, append_assoc, arith, length-append, inl, inr, ◌⊎◌}
+use Rattle.std.proofs.Common.{◌≡◌, ℕ, ◌+◌, ◌<◌, ◌≤◌, Bool, true, false, List, [], ◌∷◌, ◌++◌, length, take, drop, Option, Some, None, Result, Ok, Err, refl, ap, sym, ◌∙◌, cond, ltb, append-nil, append_assoc, arith, length-append, inl, inr, ◌⊎◌}
 use Rattle.std.specs.Option.{option_map}
 use Rattle.std.specs.List.{list_all, slice_get}
 use Rattle.std.proofs.lemmas.Bool.{false_from_ne_true, ltb-true, lt-ltb}
 use Rattle.std.proofs.lemmas.List.{take_at, drop_at}
 use Rattle.sx_esis.specs.declared.reader.LineReader.{LineReader}
-use Rattle.sx_esis.specs.declared.reader.LineFault.{LineFault}
+use Rattle.sx_esis.specs.declared.faults.LineFault.{LineFault}
+use Rattle.sx_esis.specs.declared.faults.LineWhich.{LineWhich}
+use Rattle.sx_esis.specs.declared.faults.LineWhich.TheVariants as which
 use Rattle.sx_esis.specs.declared.line_buffer.LineBuffer.{LineBuffer}
-use Rattle.sx_esis.specs.Lines.{Cut, cut, Line, Reading, nothing_more, fault_here, in_front, line_within, line_of, reading_of, last_line, rest_reading, lines_of}
+use Rattle.sx_esis.specs.Lines.{Cut, cut, Line, Fault, Reading, nothing_more, fault_here, one_later, in_front, line_within, reading_of, last_line, rest_reading, lines_of}
 use Rattle.sx_esis.specs.Inside.{IsFirstLine, is_inside}
 use Rattle.sx_esis.specs.Buffered.{taken_line, waiting}
-use Rattle.sx_esis.specs.Stands.{Stands, MayFollow, behind, to_come}
+use Rattle.sx_esis.specs.Stands.{Stands, MayFollow, behind, fault_or, line_shown, to_come}
 use Rattle.sx_esis.specs.Gives.{Advances, Counts, Fails, Judges}
 use Rattle.sx_esis.proofs.Cuts.{cut-line, cut-begun, cut-inside}
 use Rattle.sx_esis.proofs.Grow.{long_behind}
@@ -20,17 +22,22 @@ behind-lines : (lines : List Line) (r : Reading) → (behind lines r).lines ≡ 
 behind-lines [] r = refl
 behind-lines (line ∷ lines) r = ap (λ (ls : List Line). line ∷ ls) (behind-lines lines r)
 
-behind-fault : (lines : List Line) → (behind lines fault_here).fault ≡ Some (length lines + 1)
-behind-fault [] = refl
-behind-fault (line ∷ lines) = ap (option_map (λ (n : ℕ). n + 1)) (behind-fault lines) ∙ ap (λ (n : ℕ). Some n) (omega arith)
+-- the fault behind so many lines
+abbrev fault_behind : LineWhich → ℕ → Fault
+fault_behind w n = record { which = w; line = n + 1 }
+
+behind-fault : (w : LineWhich) (lines : List Line) → (behind lines (fault_here w)).fault ≡ Some (fault_behind w (length lines))
+behind-fault w [] = refl
+behind-fault w (line ∷ lines) =
+    ap (option_map one_later) (behind-fault w lines) ∙ ap (λ (n : ℕ). Some (record { which = w; line = n })) (omega arith)
 
 behind-sound : (lines : List Line) → (behind lines nothing_more).fault ≡ None
 behind-sound [] = refl
-behind-sound (line ∷ lines) = ap (option_map (λ (n : ℕ). n + 1)) (behind-sound lines)
+behind-sound (line ∷ lines) = ap (option_map one_later) (behind-sound lines)
 
-behind-snoc : (lines : List Line) (line : Line) (r : Reading) → behind lines (in_front (Some line) r) ≡ behind (lines ++ line ∷ []) r
+behind-snoc : (lines : List Line) (line : Line) (r : Reading) → behind lines (in_front (Ok line) r) ≡ behind (lines ++ line ∷ []) r
 behind-snoc [] line r = refl
-behind-snoc (l ∷ lines) line r = ap (in_front (Some l)) (behind-snoc lines line r)
+behind-snoc (l ∷ lines) line r = ap (in_front (Ok l)) (behind-snoc lines line r)
 
 line_at : (lines : List Line) (line : Line) (more : List Line) → slice_get (lines ++ line ∷ more) (length lines) ≡ Some line
 line_at [] line more = refl
@@ -50,7 +57,7 @@ read_line limit w line rest more at_end inside split =
     ∙ ap (λ (c : Cut). reading_of limit c.lines (rest_reading limit c.rest at_end)) (cut-line line (rest ++ more) inside)
 
 -- a line that is too long before it ends
-read_long : (limit : ℕ) (w more : List ℕ) (at_end : Bool) → list_all is_inside w ≡ true → limit < length w → lines_of limit (w ++ more) at_end ≡ fault_here
+read_long : (limit : ℕ) (w more : List ℕ) (at_end : Bool) → list_all is_inside w ≡ true → limit < length w → lines_of limit (w ++ more) at_end ≡ fault_here which.Line
 read_long limit w more at_end inside long =
     ap (λ (c : Cut). reading_of limit c.lines (rest_reading limit c.rest at_end)) (cut-begun w more inside)
     ∙ long_behind limit w (cut more).lines (cut more).rest at_end (lt-ltb limit (length w) long)
@@ -59,7 +66,7 @@ read_long limit w more at_end inside long =
 read_rest : (limit : ℕ) (w : List ℕ) (at_end : Bool) → list_all is_inside w ≡ true → length w ≤ limit → lines_of limit w at_end ≡ cond at_end (last_line limit w) nothing_more
 read_rest limit w at_end inside short =
     ap (λ (c : Cut). reading_of limit c.lines (rest_reading limit c.rest at_end)) (cut-inside w inside)
-    ∙ ap (λ (v : Bool). cond v fault_here (cond at_end (last_line limit w) nothing_more)) (false_from_ne_true (ltb limit (length w)) (λ long. let over : limit < length w = ltb-true limit (length w) long in omega arith))
+    ∙ ap (λ (v : Bool). cond v (fault_here which.Line) (cond at_end (last_line limit w) nothing_more)) (false_from_ne_true (ltb limit (length w)) (λ long. let over : limit < length w = ltb-true limit (length w) long in omega arith))
 
 last_is_line : (limit : ℕ) (w : List ℕ) → 0 < length w → last_line limit w ≡ in_front (line_within limit w) nothing_more
 last_is_line limit [] some = absurd (omega arith)
@@ -71,38 +78,30 @@ nothing_read limit (x ∷ w) true (inl none) = absurd (omega arith)
 nothing_read limit (x ∷ w) true (inr going) = cc
 nothing_read limit w false why = refl
 
--- what is there, where something is
-some_line : (o : Option Line) → IsSome o → (line : Line) × (o ≡ Some line)
-some_line None none = cc
-some_line (Some line) some = (line, refl)
-
-within_is_line : (limit : ℕ) (s : List ℕ) (l : Line) → line_within limit s ≡ Some l → line_of s ≡ Some l
-within_is_line limit s l within = short (ltb limit (length s)) within
-  where
-    short : (long : Bool) → cond long None (line_of s) ≡ Some l → line_of s ≡ Some l
-    short true e = cc
-    short false e = e
-
 module _ (limit : ℕ) (bytes : List ℕ) (ended : Bool) (given : ℕ) (old : LineReader) (s : Stands old limit bytes ended given) where
   -- what is read now
   now_read : lines_of limit bytes ended ≡ behind s.passed (to_come old [] ended)
   now_read = ap (λ (b : List ℕ). lines_of limit b ended) (sym (append-nil bytes)) ∙ s.reading [] ended (may_now ended)
 
   -- what comes where no fault was met
-  sound_reading : old.faulty ≡ false → (more : List ℕ) (at_end : Bool) → MayFollow ended more at_end → lines_of limit (bytes ++ more) at_end ≡ behind s.passed (lines_of old.limit (waiting old.buffer ++ more) at_end)
-  sound_reading sound more at_end may = s.reading more at_end may ∙ ap (λ (v : Bool). behind s.passed (cond v fault_here (lines_of old.limit (waiting old.buffer ++ more) at_end))) sound
+  sound_reading : old.fault ≡ None → (more : List ℕ) (at_end : Bool) → MayFollow ended more at_end → lines_of limit (bytes ++ more) at_end ≡ behind s.passed (lines_of old.limit (waiting old.buffer ++ more) at_end)
+  sound_reading sound more at_end may = s.reading more at_end may ∙ ap (λ (o : Option LineWhich). behind s.passed (fault_or o (lines_of old.limit (waiting old.buffer ++ more) at_end))) sound
 
   -- a fault that every going on has
   fails : (b : LineBuffer) (new : LineReader) (f : LineFault) → length (waiting b) ≤ length (waiting old.buffer) → Fails (record old { buffer = b }) new f →
-      ((more : List ℕ) (at_end : Bool) → MayFollow ended more at_end → lines_of limit (bytes ++ more) at_end ≡ behind s.passed fault_here) →
+      ((more : List ℕ) (at_end : Bool) → MayFollow ended more at_end → lines_of limit (bytes ++ more) at_end ≡ behind s.passed (fault_here f.which)) →
       Advances limit bytes ended given new (Some (Err f))
   fails b new f shorter failed met =
-      let here : lines_of limit bytes ended ≡ behind s.passed fault_here = ap (λ (b : List ℕ). lines_of limit b ended) (sym (append-nil bytes)) ∙ met [] ended (may_now ended) in
-      let room : given + length (waiting new.buffer) ≤ length bytes = subst (λ (c : LineBuffer). given + length (waiting c) ≤ length bytes) (sym failed.keeps.buffer) (let r : given + length (waiting old.buffer) ≤ length bytes = s.room in omega arith) in (
+      let w = f.which in
+      let here : lines_of limit bytes ended ≡ behind s.passed (fault_here w) = ap (λ (b : List ℕ). lines_of limit b ended) (sym (append-nil bytes)) ∙ met [] ended (may_now ended) in
+      let room : given + length (waiting new.buffer) ≤ length bytes = let r : given + length (waiting old.buffer) ≤ length bytes = s.room in omega (arith, ap length failed.keeps.rest) in (
         record {
-          all = sym (ap (λ (r : Reading). length r.lines) here ∙ ap length (behind-lines s.passed fault_here) ∙ ap length (append-nil s.passed) ∙ s.count);
-          fault = ap (λ (r : Reading). r.fault) here ∙ behind-fault s.passed ∙ ap (λ (n : ℕ). Some (n + 1)) s.count;
-          number = λ small. let l = failed.line in let n = s.number in omega arith;
+          all = sym (ap (λ (r : Reading). length r.lines) here ∙ ap length (behind-lines s.passed (fault_here w)) ∙ ap length (append-nil s.passed) ∙ s.count);
+          fault = fault_behind w given;
+          met = ap (λ (r : Reading). r.fault) here ∙ behind-fault w s.passed ∙ ap (λ (n : ℕ). Some (fault_behind w n)) s.count;
+          next = refl;
+          which = refl;
+          line = λ small. let l = failed.line in let n = s.number in omega arith;
         },
         record {
           most = failed.keeps.limit ∙ s.most;
@@ -111,30 +110,28 @@ module _ (limit : ℕ) (bytes : List ℕ) (ended : Bool) (given : ℕ) (old : Li
           room = room;
           passed = s.passed;
           count = s.count;
-          reading = λ more at_end may. met more at_end may ∙ sym (ap (λ (v : Bool). behind s.passed (cond v fault_here (lines_of new.limit (waiting new.buffer ++ more) at_end))) failed.faulty);
+          reading = λ more at_end may. met more at_end may ∙ sym (ap (λ (o : Option LineWhich). behind s.passed (fault_or o (lines_of new.limit (waiting new.buffer ++ more) at_end))) failed.fault);
         },
       )
 
   -- the line that was taken counts: it comes next in what is read
-  counts : (b : LineBuffer) (new : LineReader) (l : Line) → Counts (record old { buffer = b }) new → old.faulty ≡ false →
-      line_within old.limit (taken_line b) ≡ Some l → line_of (taken_line b) ≡ Some l → length (waiting b) < length (waiting old.buffer) →
+  counts : (b : LineBuffer) (new : LineReader) → Counts (record old { buffer = b }) new → old.fault ≡ None → length (waiting b) < length (waiting old.buffer) →
       ((more : List ℕ) (at_end : Bool) → MayFollow ended more at_end →
       lines_of old.limit (waiting old.buffer ++ more) at_end ≡ in_front (line_within old.limit (taken_line b)) (lines_of old.limit (waiting b ++ more) at_end)) →
       Advances limit bytes ended given new (Some (Ok tt))
-  counts b new l counted sound within is_line shorter step =
-      let next : (more : List ℕ) (at_end : Bool) → MayFollow ended more at_end → lines_of limit (bytes ++ more) at_end ≡ behind s.passed (in_front (Some l) (lines_of old.limit (waiting b ++ more) at_end)) =
+  counts b new counted sound shorter step =
+      let l = line_shown new in
+      let next : (more : List ℕ) (at_end : Bool) → MayFollow ended more at_end → lines_of limit (bytes ++ more) at_end ≡ behind s.passed (in_front (Ok l) (lines_of old.limit (waiting b ++ more) at_end)) =
       λ more at_end may.
       sound_reading sound more at_end may
-      ∙ ap (behind s.passed) (step more at_end may ∙ ap (λ (o : Option Line). in_front o (lines_of old.limit (waiting b ++ more) at_end)) within) in
+      ∙ ap (behind s.passed) (step more at_end may ∙ ap (λ (o : Result Line LineWhich). in_front o (lines_of old.limit (waiting b ++ more) at_end)) counted.line) in
       let last : Reading = lines_of old.limit (waiting b ++ []) ended in
-      let here : lines_of limit bytes ended ≡ behind s.passed (in_front (Some l) last) = ap (λ (b : List ℕ). lines_of limit b ended) (sym (append-nil bytes)) ∙ next [] ended (may_now ended) in
-      let room : given + 1 + length (waiting new.buffer) ≤ length bytes = subst (λ (c : LineBuffer). given + 1 + length (waiting c) ≤ length bytes) (sym counted.keeps.buffer) (let r : given + length (waiting old.buffer) ≤ length bytes = s.room in omega arith) in (
-        ap (λ (c : LineBuffer). line_of (taken_line c)) counted.keeps.buffer
-            ∙ is_line
-            ∙ sym (ap (λ (r : Reading). slice_get r.lines given) here
-            ∙ ap (λ (ls : List Line). slice_get ls given) (behind-lines s.passed (in_front (Some l) last))
+      let here : lines_of limit bytes ended ≡ behind s.passed (in_front (Ok l) last) = ap (λ (b : List ℕ). lines_of limit b ended) (sym (append-nil bytes)) ∙ next [] ended (may_now ended) in
+      let room : given + 1 + length (waiting new.buffer) ≤ length bytes = let r : given + length (waiting old.buffer) ≤ length bytes = s.room in omega (arith, ap length counted.keeps.rest) in (
+        ap (λ (r : Reading). slice_get r.lines given) here
+            ∙ ap (λ (ls : List Line). slice_get ls given) (behind-lines s.passed (in_front (Ok l) last))
             ∙ ap (λ (n : ℕ). slice_get (s.passed ++ l ∷ last.lines) n) (sym s.count)
-            ∙ line_at s.passed l last.lines),
+            ∙ line_at s.passed l last.lines,
         record {
           most = counted.keeps.limit ∙ s.most;
           told = counted.keeps.ended ∙ s.told;
@@ -145,33 +142,31 @@ module _ (limit : ℕ) (bytes : List ℕ) (ended : Bool) (given : ℕ) (old : Li
           reading = λ more at_end may.
               next more at_end may
               ∙ behind-snoc s.passed l (lines_of old.limit (waiting b ++ more) at_end)
-              ∙ sym (ap (λ (v : Bool). behind (s.passed ++ l ∷ []) (cond v fault_here (lines_of new.limit (waiting new.buffer ++ more) at_end))) (counted.faulty ∙ sound)
+              ∙ sym (ap (λ (o : Option LineWhich). behind (s.passed ++ l ∷ []) (fault_or o (lines_of new.limit (waiting new.buffer ++ more) at_end))) (counted.fault ∙ sound)
               ∙ ap (λ (n : ℕ). behind (s.passed ++ l ∷ []) (lines_of n (waiting new.buffer ++ more) at_end)) counted.keeps.limit
-              ∙ ap (λ (c : LineBuffer). behind (s.passed ++ l ∷ []) (lines_of old.limit (waiting c ++ more) at_end)) counted.keeps.buffer);
+              ∙ ap (λ (r : List ℕ). behind (s.passed ++ l ∷ []) (lines_of old.limit (r ++ more) at_end)) counted.keeps.rest);
         },
       )
 
   -- the line that was taken counts or is at fault
-  pub judged : (b : LineBuffer) (new : LineReader) (result : Result Unit LineFault) → Judges (record old { buffer = b }) new result → old.faulty ≡ false →
+  pub judged : (b : LineBuffer) (new : LineReader) (result : Result Unit LineFault) → Judges (record old { buffer = b }) new result → old.fault ≡ None →
       length (waiting b) < length (waiting old.buffer) →
       ((more : List ℕ) (at_end : Bool) → MayFollow ended more at_end →
       lines_of old.limit (waiting old.buffer ++ more) at_end ≡ in_front (line_within old.limit (taken_line b)) (lines_of old.limit (waiting b ++ more) at_end)) →
       Advances limit bytes ended given new (Some result)
-  judged b new (Ok done) counted sound shorter step =
-      let line = some_line (line_within old.limit (taken_line b)) counted.line in
-      counts b new line.0 counted sound line.1 (within_is_line old.limit (taken_line b) line.0 line.1) shorter step
+  judged b new (Ok done) counted sound shorter step = counts b new counted sound shorter step
   judged b new (Err f) failed sound shorter step =
       fails b new f (omega arith) failed.0
-      (λ more at_end may. sound_reading sound more at_end may ∙ ap (behind s.passed) (step more at_end may ∙ ap (λ (o : Option Line). in_front o (lines_of old.limit (waiting b ++ more) at_end)) failed.1))
+      (λ more at_end may. sound_reading sound more at_end may ∙ ap (behind s.passed) (step more at_end may ∙ ap (λ (o : Result Line LineWhich). in_front o (lines_of old.limit (waiting b ++ more) at_end)) failed.1))
 
   -- the fault that was met is met again
-  pub fault_again : (new : LineReader) (f : LineFault) → old.faulty ≡ true → Fails old new f → Advances limit bytes ended given new (Some (Err f))
+  pub fault_again : (new : LineReader) (f : LineFault) → old.fault ≡ Some f.which → Fails old new f → Advances limit bytes ended given new (Some (Err f))
   fault_again new f faulty failed =
       fails old.buffer new f (omega arith) failed
-      (λ more at_end may. s.reading more at_end may ∙ ap (λ (v : Bool). behind s.passed (cond v fault_here (lines_of old.limit (waiting old.buffer ++ more) at_end))) faulty)
+      (λ more at_end may. s.reading more at_end may ∙ ap (λ (o : Option LineWhich). behind s.passed (fault_or o (lines_of old.limit (waiting old.buffer ++ more) at_end))) faulty)
 
   -- a line whose newline has come
-  pub line_judged : (b c : LineBuffer) (n : ℕ) (new : LineReader) (result : Result Unit LineFault) → old.faulty ≡ false → waiting b ≡ waiting old.buffer → IsFirstLine (waiting old.buffer) n →
+  pub line_judged : (b c : LineBuffer) (n : ℕ) (new : LineReader) (result : Result Unit LineFault) → old.fault ≡ None → waiting b ≡ waiting old.buffer → IsFirstLine (waiting old.buffer) n →
       taken_line c ≡ take n (waiting b) → waiting c ≡ drop (n + 1) (waiting b) → Judges (record old { buffer = c }) new result → Advances limit bytes ended given new (Some result)
   line_judged b c n new result sound same first taken left judges =
       let w = waiting old.buffer in
@@ -187,14 +182,14 @@ module _ (limit : ℕ) (bytes : List ℕ) (ended : Bool) (given : ℕ) (old : Li
       ∙ ap (λ (r : List ℕ). in_front (line_within old.limit (taken_line c)) (lines_of old.limit (r ++ more) at_end)) (sym rest_is))
 
   -- a line that is too long before its newline has come
-  pub long_fails : (b : LineBuffer) (new : LineReader) (f : LineFault) → old.faulty ≡ false → waiting b ≡ waiting old.buffer → list_all is_inside (waiting old.buffer) ≡ true →
-      old.limit < length (waiting b) → Fails (record old { buffer = b }) new f → Advances limit bytes ended given new (Some (Err f))
-  long_fails b new f sound same inside long failed =
+  pub long_fails : (b : LineBuffer) (new : LineReader) (f : LineFault) → old.fault ≡ None → waiting b ≡ waiting old.buffer → list_all is_inside (waiting old.buffer) ≡ true →
+      old.limit < length (waiting b) → Fails (record old { buffer = b }) new f → f.which ≡ which.Line → Advances limit bytes ended given new (Some (Err f))
+  long_fails b new f sound same inside long failed kind =
       fails b new f (omega (arith, ap length same)) failed
-      (λ more at_end may. sound_reading sound more at_end may ∙ ap (behind s.passed) (read_long old.limit (waiting old.buffer) more at_end inside (omega (arith, ap length same))))
+      (λ more at_end may. sound_reading sound more at_end may ∙ ap (behind s.passed) (read_long old.limit (waiting old.buffer) more at_end inside (omega (arith, ap length same)) ∙ ap fault_here (sym kind)))
 
   -- nothing more has come
-  pub gave_all : (b : LineBuffer) → old.faulty ≡ false → waiting b ≡ waiting old.buffer → list_all is_inside (waiting old.buffer) ≡ true →
+  pub gave_all : (b : LineBuffer) → old.fault ≡ None → waiting b ≡ waiting old.buffer → list_all is_inside (waiting old.buffer) ≡ true →
       length (waiting b) ≤ old.limit → (length (waiting b) ≡ 0) ⊎ (old.ended ≡ false) → Advances limit bytes ended given (record old { buffer = b }) None
   gave_all b sound same inside short why =
       let w = waiting old.buffer in
@@ -215,7 +210,7 @@ module _ (limit : ℕ) (bytes : List ℕ) (ended : Bool) (given : ℕ) (old : Li
           room = let r : given + length (waiting old.buffer) ≤ length bytes = s.room in omega (arith, ap length same);
           passed = s.passed;
           count = s.count;
-          reading = λ more at_end may. s.reading more at_end may ∙ ap (λ (r : List ℕ). behind s.passed (cond old.faulty fault_here (lines_of old.limit (r ++ more) at_end))) (sym same);
+          reading = λ more at_end may. s.reading more at_end may ∙ ap (λ (r : List ℕ). behind s.passed (fault_or old.fault (lines_of old.limit (r ++ more) at_end))) (sym same);
         },
       )
     where
@@ -224,7 +219,7 @@ module _ (limit : ℕ) (bytes : List ℕ) (ended : Bool) (given : ℕ) (old : Li
       reason (inr going) = inr (sym s.told ∙ going)
 
   -- the last line, which no newline ends
-  pub rest_judged : (b c : LineBuffer) (new : LineReader) (result : Result Unit LineFault) → old.faulty ≡ false → waiting b ≡ waiting old.buffer → list_all is_inside (waiting old.buffer) ≡ true →
+  pub rest_judged : (b c : LineBuffer) (new : LineReader) (result : Result Unit LineFault) → old.fault ≡ None → waiting b ≡ waiting old.buffer → list_all is_inside (waiting old.buffer) ≡ true →
       length (waiting b) ≤ old.limit → 0 < length (waiting b) → old.ended ≡ true → taken_line c ≡ waiting b → waiting c ≡ [] → Judges (record old { buffer = c }) new result →
       Advances limit bytes ended given new (Some result)
   rest_judged b c new result sound same inside short some over taken none judges =

@@ -1,19 +1,23 @@
 -- What a reader of lines answers.
-use Rattle.std.specs.Prelude.{◌≡◌, ℕ, ◌+◌, ◌-◌, ◌^◌, ◌<◌, min, Bool, true, List, length, Option, Some, None, Result, Ok, Err, IsSome}
+use Rattle.std.specs.Prelude.{◌≡◌, ℕ, ◌+◌, ◌-◌, ◌^◌, ◌<◌, min, Bool, List, length, Option, Some, None, Result, Ok, Err}
 use Rattle.std.specs.List.{slice_get}
+use Rattle.sx_esis.specs.declared.faults.LineFault.{LineFault}
 use Rattle.sx_esis.specs.declared.reader.LineReader.{LineReader}
-use Rattle.sx_esis.specs.declared.reader.LineFault.{LineFault}
 use Rattle.sx_esis.specs.declared.reader.LineView.{LineView}
-use Rattle.sx_esis.specs.declared.reader.LineView.TheVariants.{Start, End, Text, Conforming}
-use Rattle.sx_esis.specs.Lines.{Line, starts, ends, says, conforms, Reading, lines_of, line_within}
-use Rattle.sx_esis.specs.Buffered.{taken_line}
-use Rattle.sx_esis.specs.Stands.{Stands, line_shown, unread}
+use Rattle.sx_esis.specs.declared.reader.LineView.TheVariants.{Start, End, Attr, Implied, Text, Pi, Skipped, Conforming}
+use Rattle.sx_esis.specs.Lines.{Line, starts, ends, has, lacks, says, instructs, skips, conforms, Fault, Reading, lines_of, line_within}
+use Rattle.sx_esis.specs.Buffered.{taken_line, waiting}
+use Rattle.sx_esis.specs.Stands.{IsShown, Stands, line_shown, unread}
 
 -- the line that a view shows
 abbrev pub view_line : LineView → Line
 view_line (Start name) = starts name.now
 view_line (End name) = ends name.now
+view_line (Attr name value) = has name.now value.now
+view_line (Implied name) = lacks name.now
 view_line (Text text) = says text.now
+view_line (Pi text) = instructs text.now
+view_line Skipped = skips
 view_line Conforming = conforms
 
 -- All that can be read was given, and it is not at fault.
@@ -21,16 +25,19 @@ pub record GaveAll (reading : Reading) (given : ℕ) : Type 0 where
   pub all : given ≡ length reading.lines
   pub sound : reading.fault ≡ None
 
--- Behind the lines given comes the one at fault, which the fault names by its number.
+-- Behind the lines given comes the one at fault: the fault given says the same is wrong with it, and names it by its number.
 pub record GivesFault (reading : Reading) (bytes : List ℕ) (given : ℕ) (f : LineFault) : Type 0 where
   pub all : given ≡ length reading.lines
-  pub fault : reading.fault ≡ Some (given + 1)
-  pub number : length bytes < 2 ^ 62 → f.line ≡ given + 1
+  pub fault : Fault
+  pub met : reading.fault ≡ Some fault
+  pub next : fault.line ≡ given + 1
+  pub which : f.which ≡ fault.which
+  pub line : length bytes < 2 ^ 62 → f.line ≡ fault.line
 
 -- The reader went on to the line behind those given and shows it, or it gave all, or it met the fault.
 abbrev pub Advances : ℕ → List ℕ → Bool → ℕ → LineReader → Option (Result Unit LineFault) → Type 0
 Advances limit bytes ended given new None = GaveAll (lines_of limit bytes ended) given × Stands new limit bytes ended given
-Advances limit bytes ended given new (Some (Ok done)) = (line_shown new ≡ slice_get (lines_of limit bytes ended).lines given) × Stands new limit bytes ended (given + 1)
+Advances limit bytes ended given new (Some (Ok done)) = (slice_get (lines_of limit bytes ended).lines given ≡ Some (line_shown new)) × Stands new limit bytes ended (given + 1)
 Advances limit bytes ended given new (Some (Err f)) = GivesFault (lines_of limit bytes ended) bytes given f × Stands new limit bytes ended given
 
 -- The reader gave the line behind those given before, or it gave all, or it met the fault.
@@ -50,27 +57,28 @@ pub record Follows (old : LineReader) (result : Option (Result LineView LineFaul
   pub gives : (limit : ℕ) (bytes : List ℕ) (ended : Bool) (given : ℕ) → Stands old limit bytes ended given → Gives limit bytes ended given new result
   pub progress : IsLineGiven result → unread new < unread old
 
--- All but the line's number and what is known of a fault stays.
+-- What was fed, and how it is to be read, stays.
 pub record Keeps (old new : LineReader) : Type 0 where
-  pub buffer : new.buffer ≡ old.buffer
+  pub rest : waiting new.buffer ≡ waiting old.buffer
   pub limit : new.limit ≡ old.limit
   pub ended : new.ended ≡ old.ended
 
--- The line that was taken is of the form, and counts.
+-- The line that was taken can be shown, and counts.
 pub record Counts (old new : LineReader) : Type 0 where
   pub keeps : Keeps old new
-  pub line : IsSome (line_within old.limit (taken_line old.buffer))
+  pub line : line_within old.limit (taken_line old.buffer) ≡ Ok (line_shown new)
+  pub shown : IsShown new
   pub number : new.number ≡ min (old.number + 1) (2 ^ 64 - 1)
-  pub faulty : new.faulty ≡ old.faulty
+  pub fault : new.fault ≡ old.fault
 
 -- There is a fault, which stays known, and bears the number of the next line.
 pub record Fails (old new : LineReader) (f : LineFault) : Type 0 where
   pub keeps : Keeps old new
   pub number : new.number ≡ old.number
-  pub faulty : new.faulty ≡ true
+  pub fault : new.fault ≡ Some f.which
   pub line : f.line ≡ min (old.number + 1) (2 ^ 64 - 1)
 
 -- The line that was taken counts, or it is at fault.
 abbrev pub Judges : LineReader → LineReader → Result Unit LineFault → Type 0
 Judges old new (Ok done) = Counts old new
-Judges old new (Err f) = Fails old new f × (line_within old.limit (taken_line old.buffer) ≡ None)
+Judges old new (Err f) = Fails old new f × (line_within old.limit (taken_line old.buffer) ≡ Err f.which)

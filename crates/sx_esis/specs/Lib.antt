@@ -1,4 +1,7 @@
+pub mod Escapes
+pub mod Replacing
 pub mod Lines
+pub mod Forms
 pub mod Inside
 pub mod Buffered
 pub mod Stands

@@ -1,10 +1,14 @@
 //! The lines of a document, read from bytes that come in pieces.
 #![tactic(auto)]
 
+mod escapes;
+mod faults;
 mod form;
 mod line_buffer;
+mod places;
 mod reader;
 #[cfg(test)]
 mod tests;
 
-pub use reader::{LineFault, LineReader, LineView, LineWhich};
+pub use faults::{LineFault, LineWhich};
+pub use reader::{LineReader, LineView};

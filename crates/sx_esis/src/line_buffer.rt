@@ -1,8 +1,11 @@
 // The bytes that wait, and the line that was taken from their front.
-ghost use Rattle.std.specs.Prelude.{◌≡◌, ℕ, ◌+◌, ◌<◌, ◌≤◌, List, [], ◌++◌, length, take, drop, OnOk, OnErr, MatchOption, IsTrue};
+ghost use Rattle.std.specs.Prelude.{◌≡◌, ℕ, ◌+◌, ◌<◌, ◌≤◌, List, [], ◌++◌, length, take, drop, Ok, Err, IfOk, OnOk, OnErr, IfErr, MatchOption, IsTrue};
 ghost use Rattle.std.specs.List.{list_all, slice_range};
+ghost use Rattle.sx_esis.specs.Escapes.{unescape};
 ghost use Rattle.sx_esis.specs.Inside.{IsFirstLine, is_inside};
 
+use crate::escapes::unescape;
+use crate::faults::LineWhich;
 use memchr::memchr;
 use std::alloc::{AllocError, Global};
 
@@ -22,7 +25,7 @@ pub(crate) struct LineBuffer {
 }
 
 impl LineBuffer {
-    ghost use Rattle.sx_esis.specs.Buffered.{taken_line, waiting};
+    ghost use Rattle.sx_esis.specs.Buffered.{HasUnescaped, taken_line, waiting};
 
     pub(crate) fn new(alloc: Global) -> LineBuffer
         ensures line { taken_line result ≡ [] }
@@ -90,6 +93,23 @@ impl LineBuffer {
         self.searched = end;
     }
 
+    /// Replaces the escapes of the line from this place on, or says what is wrong with the first one at fault. After an
+    /// `Err` the line is any.
+    pub(crate) fn unescape_line(&mut self, start: usize) -> Result<(), LineWhich>
+        requires { start ≤ length (taken_line self.old) }
+        ensures ok { OnOk result (HasUnescaped (taken_line self.old) start (taken_line self.new)) }
+        ensures err { IfErr result (λ w. unescape (drop start (taken_line self.old)) ≡ Err w) }
+        ensures rest { waiting self.new ≡ waiting self.old }
+    {
+        match unescape_part(&mut self.bytes, self.line_start + start, self.line_end) {
+            Ok(end) => {
+                self.line_end = end;
+                Ok(())
+            }
+            Err(which) => Err(which),
+        }
+    }
+
     /// Adds bytes behind those that wait, and forgets the line.
     pub(crate) fn append(&mut self, piece: &[u8]) -> Result<(), AllocError>
         ensures ok { OnOk result (waiting self.new ≡ waiting self.old ++ piece.now) }
@@ -111,6 +131,22 @@ impl LineBuffer {
         self.line_end = 0;
         self.searched -= self.start;
         self.start = 0;
+    }
+}
+
+/// Replaces the escapes from one place to another, and gives where their text ends.
+fn unescape_part(bytes: &mut Vec<u8>, start: usize, end: usize) -> Result<usize, LineWhich>
+    requires order { start ≤ end }
+    requires within { end ≤ length bytes.old.items }
+    ensures ok { IfOk result (λ stop. (start ≤ stop) × (stop ≤ end) × (unescape (slice_range bytes.old.items start end) ≡ Ok (slice_range bytes.new.items start stop))) }
+    ensures err { IfErr result (λ w. unescape (slice_range bytes.old.items start end) ≡ Err w) }
+    ensures front { take start bytes.new.items ≡ take start bytes.old.items }
+    ensures rest { (n : ℕ) → end ≤ n → drop n bytes.new.items ≡ drop n bytes.old.items }
+    ensures length { length bytes.new.items ≡ length bytes.old.items }
+{
+    match unescape(&mut bytes[start..end]) {
+        Ok(count) => Ok(start + count),
+        Err(which) => Err(which),
     }
 }
 

@@ -1,41 +1,37 @@
 // A reader of lines.
-ghost use Rattle.std.specs.Prelude.{◌≡◌, ℕ, ◌+◌, ◌-◌, ◌^◌, ◌<◌, min, Bool, true, false, List, [], ◌++◌, Some, IsSome, OnOk, OnErr, length};
-ghost use Rattle.sx_esis.specs.Stands.{Stands, line_shown, unread};
+ghost use Rattle.std.specs.Prelude.{◌≡◌, ℕ, ◌+◌, ◌-◌, ◌^◌, ◌<◌, min, Bool, true, false, List, [], ◌++◌, None, Ok, Err, IfOk, IfErr, OnOk, OnErr, length};
+ghost use Rattle.std.specs.Str.{IsUtf8};
+ghost use Rattle.sx_esis.specs.Forms.{Fits, says_in};
+ghost use Rattle.sx_esis.specs.Lines.{line_within};
+ghost use Rattle.sx_esis.specs.Buffered.{taken_line, waiting};
+ghost use Rattle.sx_esis.specs.Stands.{IsShown, Stands, line_shown, unread};
 ghost use Rattle.sx_esis.specs.Gives.{Advances, Fails, IsLineGiven, Judges, view_line};
-ghost use Rattle.sx_esis.specs.Lines.{line_of};
-ghost use Rattle.std.specs.Str.{IsAscii};
 
-use crate::form::is_line;
+use crate::faults::{LineFault, LineWhich};
+use crate::form::{Form, form_of};
 use crate::line_buffer::LineBuffer;
 use std::alloc::{AllocError, Global};
 use std::str;
 
-/// What a line says, lent from the reader's buffer.
+/// What a line says, lent from the reader's buffer. Names, texts and values have no escapes left.
 #[derive(Clone, Copy, Debug, PartialEq, Eq, Drop)]
 pub enum LineView<'a> {
-    /// An element of this name starts: `(` and letters of ASCII.
+    /// `(`: an element of this name starts.
     Start(&'a str),
-    /// An element of this name ends: `)` and letters of ASCII.
+    /// `)`: an element of this name ends.
     End(&'a str),
-    /// Text: `-` and printable characters of ASCII other than the backslash.
+    /// `A`: the element that starts next has an attribute of this name and value.
+    Attr { name: &'a str, value: &'a str },
+    /// `A` with `IMPLIED`: the element that starts next has no attribute of this name.
+    Implied(&'a str),
+    /// `-`: text.
     Text(&'a str),
-    /// The document conformed: `C` alone.
+    /// `?`: a processing instruction, with its target in front.
+    Pi(&'a str),
+    /// A line that tells nothing of the document.
+    Skipped,
+    /// `C`: the document conformed.
     Conforming,
-}
-
-/// What is wrong with a line.
-#[derive(Clone, Copy, Debug, PartialEq, Eq)]
-pub enum LineWhich {
-    /// The line is not of the form, or longer than the limit.
-    Unbuilt,
-}
-
-/// A line that cannot be read.
-#[derive(Clone, Copy, Debug, PartialEq, Eq)]
-pub struct LineFault {
-    pub which: LineWhich,
-    /// The line's number, counted from 1.
-    pub line: u64,
 }
 
 /// Reads lines from bytes that come in pieces of any lengths.
@@ -44,27 +40,54 @@ pub struct LineReader {
     buffer: LineBuffer,
     limit: u64,
     ended: bool,
-    faulty: bool,
+    fault: Option<LineWhich>,
     number: u64,
+    form: Form,
 }
 
-fn ascii(bytes: &[u8]) -> &str
-    requires { IsAscii bytes.now }
+fn text(bytes: &[u8]) -> &str
+    requires { IsUtf8 bytes.now }
     ensures { result.now ≡ bytes.now }
 {
-    str::from_utf8(bytes).unwrap()
+    unsafe { str::from_utf8_unchecked(bytes) }
 }
 
-fn view_of(line: &[u8]) -> LineView<'_>
-    requires { IsSome (line_of line.now) }
-    ensures { Some (view_line result) ≡ line_of line.now }
+fn view_of(form: Form, line: &[u8]) -> LineView<'_>
+    requires { Fits form line.now }
+    ensures { view_line result ≡ says_in form line.now }
 {
-    match line {
-        [b'(', name @ ..] => LineView::Start(ascii(name)),
-        [b')', name @ ..] => LineView::End(ascii(name)),
-        [b'-', text @ ..] => LineView::Text(ascii(text)),
-        _ => LineView::Conforming,
+    match form {
+        Form::Start => LineView::Start(text(&line[1..])),
+        Form::End => LineView::End(text(&line[1..])),
+        Form::Text => LineView::Text(text(&line[1..])),
+        Form::Pi => LineView::Pi(text(&line[1..])),
+        Form::Attr {
+            name_end,
+            value_start,
+        } => LineView::Attr {
+            name: text(&line[1..name_end]),
+            value: text(&line[value_start..]),
+        },
+        Form::Implied { name_end } => LineView::Implied(text(&line[1..name_end])),
+        Form::Conforming => LineView::Conforming,
+        Form::Skipped => LineView::Skipped,
     }
+}
+
+/// Reads the line that was taken, and replaces its escapes.
+fn read_line(buffer: &mut LineBuffer, limit: u64) -> Result<Form, LineWhich>
+    ensures ok { IfOk result (λ form. (line_within limit (taken_line buffer.old) ≡ Ok (says_in form (taken_line buffer.new))) × Fits form (taken_line buffer.new)) }
+    ensures err { IfErr result (λ w. line_within limit (taken_line buffer.old) ≡ Err w) }
+    ensures rest { waiting buffer.new ≡ waiting buffer.old }
+{
+    if buffer.line().len() as u64 > limit {
+        return Err(LineWhich::Line);
+    }
+    let form = form_of(buffer.line())?;
+    if let Some(start) = form.text_start() {
+        buffer.unescape_line(start)?;
+    }
+    Ok(form)
 }
 
 impl LineReader {
@@ -82,8 +105,9 @@ impl LineReader {
             buffer: LineBuffer::new(alloc),
             limit,
             ended: false,
-            faulty: false,
+            fault: None,
             number: 0,
+            form: Form::Skipped,
         }
     }
 
@@ -93,7 +117,7 @@ impl LineReader {
         ensures ok { (limit : ℕ) (bytes : List ℕ) (given : ℕ) → Stands self.old limit bytes false given → OnOk result (Stands self.new limit (bytes ++ piece.now) false given) }
         ensures err { (limit : ℕ) (bytes : List ℕ) (ended : Bool) (given : ℕ) → Stands self.old limit bytes ended given → OnErr result (Stands self.new limit bytes ended given) }
     {
-        if self.faulty {
+        if self.fault.is_some() {
             return Ok(());
         }
         self.buffer.append(piece)
@@ -114,7 +138,7 @@ impl LineReader {
     }
 
     /// The next line. `None` says that no more lines have come so far. The first line that is longer
-    /// than the limit or not of the form is a fault, and from then on the answer stays that fault.
+    /// than the limit or at fault in another way ends the lines, and from then on the answer stays that fault.
     pub fn next(&mut self) -> Option<Result<LineView<'_>, LineFault>>
         ensures* { sem 𝓛 (follows_so the_row the_row self.entry.ghost_name none (λ _ _. ⊤) (λ new. Follows self.old result new)) }
     {
@@ -128,19 +152,29 @@ impl LineReader {
     /// Goes to the next line, which `view` then shows.
     fn advance(&mut self) -> Option<Result<(), LineFault>>
         ensures gives { (limit : ℕ) (bytes : List ℕ) (ended : Bool) (given : ℕ) → Stands self.old limit bytes ended given → Advances limit bytes ended given self.new result }
-        ensures shown { IsLineGiven result → IsSome (line_shown self.new) }
+        ensures shown { IsLineGiven result → IsShown self.new }
         ensures progress { IsLineGiven result → unread self.new < unread self.old }
     {
-        if self.faulty {
-            return Some(Err(self.fail()));
+        match self.fault {
+            None => self.go_on(),
+            Some(which) => Some(Err(self.fail(which))),
         }
+    }
+
+    /// The same where no fault was met.
+    fn go_on(&mut self) -> Option<Result<(), LineFault>>
+        requires { self.old.fault ≡ None }
+        ensures gives { (limit : ℕ) (bytes : List ℕ) (ended : Bool) (given : ℕ) → Stands self.old limit bytes ended given → Advances limit bytes ended given self.new result }
+        ensures shown { IsLineGiven result → IsShown self.new }
+        ensures progress { IsLineGiven result → unread self.new < unread self.old }
+    {
         if let Some(line_length) = self.buffer.find_line() {
             self.buffer.take_line(line_length);
             return Some(self.judge());
         }
         let rest = self.buffer.waiting_len();
         if rest as u64 > self.limit {
-            return Some(Err(self.fail()));
+            return Some(Err(self.fail(LineWhich::Line)));
         }
         if rest == 0 || !self.ended {
             return None;
@@ -151,29 +185,33 @@ impl LineReader {
 
     /// The line that `advance` went to.
     fn view(&self) -> LineView<'_>
-        requires { IsSome (line_shown self.now) }
-        ensures { Some (view_line result) ≡ line_shown self.now }
+        requires { IsShown self.now }
+        ensures { view_line result ≡ line_shown self.now }
     {
-        view_of(self.buffer.line())
+        view_of(self.form, self.buffer.line())
     }
 
+    /// Reads the line that was taken.
     fn judge(&mut self) -> Result<(), LineFault>
         ensures { Judges self.old self.new result }
     {
-        let line = self.buffer.line();
-        if line.len() as u64 > self.limit || !is_line(line) {
-            return Err(self.fail());
+        match read_line(&mut self.buffer, self.limit) {
+            Ok(form) => {
+                self.form = form;
+                self.number = self.number.saturating_add(1);
+                Ok(())
+            }
+            Err(which) => Err(self.fail(which)),
         }
-        self.number = self.number.saturating_add(1);
-        Ok(())
     }
 
-    fn fail(&mut self) -> LineFault
-        ensures { Fails self.old self.new result }
+    fn fail(&mut self, which: LineWhich) -> LineFault
+        ensures fails { Fails self.old self.new result }
+        ensures which { result.which ≡ which }
     {
-        self.faulty = true;
+        self.fault = Some(which);
         LineFault {
-            which: LineWhich::Unbuilt,
+            which,
             line: self.number.saturating_add(1),
         }
     }

@@ -1,142 +1,168 @@
--- How the bytes end, and what is then left to give.
-use Rattle.std.proofs.Common.{◌≡◌, ◌≢◌, ◌⊎◌, inl, inr, ℕ, suc, ◌^◌, Bool, true, false, not, cond, ◌&&◌, nat_lt, List, [], ◌∷◌, ◌++◌, length, slice_get, Option, Some, None, is_some, ap, ap₂, sym, ◌∙◌, subst, arith, append_assoc, append-nil, length-append}
-use Rattle.sx_esis.specs.Lines.{Line, lines_of}
+-- How the bytes end, where all lines that have come were taken.
+use Rattle.std.proofs.Common.{◌≡◌, ℕ, suc, ◌+◌, ◌-◌, ◌<◌, ◌≤◌, ◌^◌, min, Bool, true, false, List, [], ◌∷◌, ◌++◌, length, Option, Some, None, option_map, refl, ap, ap₂, sym, ◌∙◌, subst, arith, append-nil}
+use Rattle.sx_esis.specs.Lines as esis
+use Rattle.sx_tree.specs.Tree as tree
+use Rattle.sx_tree.specs.Tree.{Happening}
+use Rattle.sx_tree.specs.declared.events.Event.TheVariants as event
 use Rattle.sx_esis.specs.declared.reader.LineReader.{LineReader}
-use Rattle.sx_names.proofs.Places.{place_stays, KeepsPlaces-append}
-use Rattle.sx_tree.specs.Events.{ends_in_text as text_is_last}
-use Rattle.sx_tree.specs.Tree.{Happening, says, closes}
-use Rattle.sx_tree.specs.declared.events.Event.{Event}
-use Rattle.sx_events.specs.Form.{Course, happenings, document_of, is_whole, all_fit, fitting, course_of, events_in, events_of, stated, without_last_text}
-use Rattle.sx_events.specs.Pending.{named, IsKnown, text_held, tag_held, text_waits, ends_in_held_text, Pends, GivesNext}
-use Rattle.sx_events.specs.Reader.{Along, TookAll, Broke, within, ends_within, BrokenOff, BeforeClose, BehindClose, GaveAll}
-use Rattle.sx_events.specs.declared.nesting.Nesting.{Nesting}
+use Rattle.sx_events.specs.Course.{Lined, Course, course_of, reading, looked_at, is_beyond, run_in, run_of, closing, fault_next, break_of, events_of}
+use Rattle.sx_events.specs.Pending.{held, held_in, IsKnownIn, IsIdle, AreKnown, Pends, one_of, count_held}
+use Rattle.sx_events.specs.Place.{Place, beginning, end_fault}
+use Rattle.sx_events.specs.Reader.{Along, TookAll, Broke, EndsWell, Going, StandsAt, GaveAll, Rests}
+use Rattle.sx_events.specs.Standing.{Flushed, count}
+use Rattle.sx_events.specs.declared.event_reader.Ending.{Ending}
+use Rattle.sx_events.specs.declared.event_reader.EventReader.{EventReader}
+use Rattle.sx_events.specs.declared.faults.DocFault.{DocFault}
+use Rattle.sx_events.specs.declared.faults.Which.{Which}
+use Rattle.sx_events.specs.declared.faults.Which.TheVariants as which
+use Rattle.sx_events.specs.declared.limits.Limits.{Limits}
 use Rattle.sx_events.specs.declared.pending.Pending.{Pending}
-use Rattle.sx_events.specs.declared.pending.Tag.{Tag}
-use Rattle.sx_events.proofs.Courses.{fitting-all, fitting-append, fitting-grows, happenings-append, no_text_last, without_last_text-append, last_cause}
-use Rattle.sx_events.proofs.Pendings.{at_seam}
-use Rattle.sx_events.proofs.Reach.{at_limit, at_fit, at_fault, not_none}
+use Rattle.sx_events.specs.declared.pending.Waiting.{Waiting}
+use Rattle.sx_events.specs.declared.standing.Standing.{Standing}
+use Rattle.sx_events.proofs.Courses.{course-lines}
+use Rattle.sx_events.proofs.Growths.{broken_with, events_with, events_broken}
+use Rattle.sx_events.proofs.Lines.{held_none}
+use Rattle.sx_events.proofs.Looks.{looked-length}
+use Rattle.sx_events.proofs.Takings.{flushed_count}
 
--- the events of a course, by how it stands
-pub events_broken : (c : Course) (ended : Bool) → c.broken ≡ true → events_in c ended ≡ happenings c.lines
-events_broken c ended h = ap (λ (v : Bool). cond v (happenings c.lines) (cond ended (happenings c.lines ++ closes ∷ []) (without_last_text (happenings c.lines)))) h
+module _ (r : LineReader) (s : Standing) (p : Pending) (limits : Limits) (names : List (List ℕ × List ℕ)) (b : List ℕ) (ended : Bool) (given line : ℕ)
+    (took : TookAll r s p limits names b ended given line) where
+  abbrev place : Place
+  place = (course_of limits b ended).place
 
-pub events_done : (c : Course) (ended : Bool) → c.broken ≡ false → ended ≡ true → events_in c ended ≡ happenings c.lines ++ closes ∷ []
-events_done c ended h e = ap₂ (λ (v w : Bool). cond v (happenings c.lines) (cond w (happenings c.lines ++ closes ∷ []) (without_last_text (happenings c.lines)))) h e
+  pub few_looked : length (looked_at limits b) < 2 ^ 62
+  few_looked = let small = took.small.bytes in omega (arith, small, looked-length limits b)
 
-pub events_going : (c : Course) (ended : Bool) → c.broken ≡ false → ended ≡ false → events_in c ended ≡ without_last_text (happenings c.lines)
-events_going c ended h e = ap₂ (λ (v w : Bool). cond v (happenings c.lines) (cond w (happenings c.lines ++ closes ∷ []) (without_last_text (happenings c.lines)))) h e
+  -- the lines that were given are those of the place
+  pub last_number : (n : ℕ) → n ≡ length (reading limits b ended).lines → n ≡ place.lines
+  last_number n is = let count = course-lines limits beginning (reading limits b ended).lines took.sound in omega (arith, count, is)
 
--- events begin with all that has happened so far, where no text is the last of it
-begin_by : (broken ended : Bool) (all hs more : List (Happening (List ℕ))) → all ≡ hs ++ more → text_is_last hs ≡ false →
-    (rest : List (Happening (List ℕ))) × (cond broken all (cond ended (all ++ closes ∷ []) (without_last_text all)) ≡ hs ++ rest)
-begin_by true ended all hs more e last = (more, e)
-begin_by false true all hs more e last = (more ++ closes ∷ [], ap (λ (x : List (Happening (List ℕ))). x ++ closes ∷ []) e ∙ append_assoc hs more (closes ∷ []))
-begin_by false false all hs [] e last = ([], ap without_last_text (e ∙ append-nil hs) ∙ no_text_last hs last ∙ sym (append-nil hs))
-begin_by false false all hs (k ∷ ks) e last = (without_last_text (k ∷ ks), ap without_last_text e ∙ without_last_text-append hs k ks)
+  pub number_behind : (n number : ℕ) → n ≡ length (reading limits b ended).lines → number ≡ min (n + 1) (2 ^ 64 - 1) → number ≡ suc place.lines
+  number_behind n number is one =
+      let few = few_looked in
+      let room = took.reads.room in
+      let count = last_number n is in
+      omega (arith, few, room, count, is, one)
 
-pub events_begin : (r : LineReader) (n : Nesting) (p : Pending) (names : List (List ℕ × List ℕ)) (b : List ℕ) (ended : Bool) (given : ℕ) (a : Along r n p names (within b) (ends_within b ended) given) →
-    text_is_last (happenings a.front) ≡ false → (rest : List (Happening (List ℕ))) × (events_of stated b ended ≡ happenings a.front ++ rest)
-events_begin r n p names b ended given a last =
-    let m = fitting-grows 200 a.front a.more in
-    let lines : (course_of stated b ended).lines ≡ a.front ++ m.0 = ap (fitting 200 []) a.lines ∙ fitting-append 200 [] a.front a.more a.fit ∙ m.1 in
-    begin_by (course_of stated b ended).broken ended (happenings (course_of stated b ended).lines) (happenings a.front) (happenings m.0)
-    (ap happenings lines ∙ happenings-append a.front m.0) last
+  broken_is : (beyond e : Bool) → is_beyond limits b ≡ beyond → ended ≡ e → break_of limits b ended ≡ broken_with None place None beyond e
+  broken_is beyond e over told =
+      ap₂ (λ (x : Option DocFault) (y : Option esis.Fault). broken_with x place y (is_beyond limits b) ended) took.sound took.whole
+      ∙ ap₂ (λ (v w : Bool). broken_with None place None v w) over told
 
--- what waits where no tag does is all but the events
-all_but_text : (text : Option (List ℕ)) (front hs : List (Happening (List ℕ))) → hs ≡ front ++ text_held text → text_is_last hs ≡ text_waits None text → length front ≡ length (without_last_text hs)
-all_but_text None front hs e last =
-    let same : hs ≡ front = e ∙ append-nil front in
-    ap (λ (x : List (Happening (List ℕ))). length x) (sym (no_text_last hs last ∙ same))
-all_but_text (Some s) front hs e last =
-    ap (λ (x : List (Happening (List ℕ))). length x) (sym (ap without_last_text e ∙ without_last_text-append front (says s) [] ∙ append-nil front))
+  with_line : (w : Which) (number : ℕ) → number ≡ suc place.lines → Some (fault_next place w) ≡ Some (record { which = w; line = number })
+  with_line w number is = ap (λ (n : ℕ). Some (record { which = w; line = n })) (sym is)
 
-all_but_held : (p : Pending) (names : List (List ℕ × List ℕ)) (hs : List (Happening (List ℕ))) (given : ℕ) → p.tag ≡ None → Pends p names hs given → text_is_last hs ≡ ends_in_held_text p → given ≡ length (without_last_text hs)
-all_but_held p names hs given none pends last =
-    sym pends.number
-    ∙ all_but_text p.text pends.front hs
-    (pends.splits ∙ ap (λ (t : Option Tag). pends.front ++ (text_held p.text ++ tag_held names t)) none ∙ ap (λ (x : List (Happening (List ℕ))). pends.front ++ x) (append-nil (text_held p.text)))
-    (last ∙ ap (λ (t : Option Tag). text_waits t p.text) none)
+  -- the bytes have passed the limit
+  pub breaks_beyond : (number : ℕ) → number ≡ suc place.lines → is_beyond limits b ≡ true → break_of limits b ended ≡ Some (record { which = which.Bytes; line = number })
+  breaks_beyond number is over = broken_is true ended over refl ∙ with_line which.Bytes number is
 
--- where nothing waits all was given
-pub nothing_held : (p : Pending) (names : List (List ℕ × List ℕ)) (hs : List (Happening (List ℕ))) (given : ℕ) → p.text ≡ None → p.tag ≡ None → Pends p names hs given → given ≡ length hs
-nothing_held p names hs given text tag_none pends =
-    sym pends.number
-    ∙ ap (λ (x : List (Happening (List ℕ))). length x)
-    (sym (pends.splits ∙ ap₂ (λ (x : Option (List ℕ)) (t : Option Tag). pends.front ++ (text_held x ++ tag_held names t)) text tag_none ∙ append-nil pends.front))
+  -- the input has ended too early
+  pub breaks_short : (w : Which) (number : ℕ) → number ≡ suc place.lines → is_beyond limits b ≡ false → ended ≡ true → end_fault place ≡ Some w → break_of limits b ended ≡ Some (record { which = w; line = number })
+  breaks_short w number is within told fault =
+      broken_is false true within told ∙ ap (option_map (fault_next place)) fault ∙ with_line w number is
 
-module _ (r : LineReader) (n : Nesting) (p : Pending) (names : List (List ℕ × List ℕ)) (b : List ℕ) (ended : Bool) (given : ℕ) (t : TookAll r n p names (within b) (ends_within b ended) given) where
-  all_lines : (course_of stated b ended).lines ≡ (lines_of 1048576 (within b) (ends_within b ended)).lines
-  all_lines = fitting-all 200 [] (lines_of 1048576 (within b) (ends_within b ended)).lines t.fit
+  pub ends_well : is_beyond limits b ≡ false → ended ≡ true → end_fault place ≡ None → break_of limits b ended ≡ None
+  ends_well within told sound = broken_is false true within told ∙ ap (option_map (fault_next place)) sound
 
-  all_pends : Pends p names (happenings (course_of stated b ended).lines) given
-  all_pends = subst (λ (ls : List Line). Pends p names (happenings ls) given) (sym all_lines) t.took.pends
+  pub goes_on : is_beyond limits b ≡ false → ended ≡ false → break_of limits b ended ≡ None
+  goes_on within told = broken_is false false within told
 
-  -- within the limit only the end of the input decides
-  decided : nat_lt (2 ^ 40) (length b) ≡ false → (course_of stated b ended).broken ≡ (ended && not (is_whole (document_of (lines_of 1048576 (within b) (ends_within b ended)).lines)))
-  decided small = last_cause _ _ _ _ t.fit (ap is_some t.sound) small ∙ ap (λ (ls : List Line). ended && not (is_whole (document_of ls))) all_lines
+  run_is : run_in s.run.text s.run.line ≡ run_of place
+  run_is = ap₂ run_in took.knows.text took.knows.text_line
 
-  pub ends_beyond : nat_lt (2 ^ 40) (length b) ≡ true → BrokenOff p names b ended given
-  ends_beyond large = record { broken = at_limit stated b ended large; pends = all_pends }
+  pub broke : (fault : DocFault) → IsIdle p → break_of limits b ended ≡ Some fault → Broke s p limits names b ended given line fault
+  broke fault idle cause = record { cause = cause; run = run_is; idle = idle; pends = took.pends }
 
-  pub ends_whole : nat_lt (2 ^ 40) (length b) ≡ false → ended ≡ true → is_whole (document_of (lines_of 1048576 (within b) (ends_within b ended)).lines) ≡ true → BeforeClose p names b ended given
-  ends_whole small told whole = record { told = told; whole = decided small ∙ ap₂ (λ (e w : Bool). e && not w) told whole; pends = all_pends }
+  pub well : (last : ℕ) → last ≡ place.lines → IsIdle p → ended ≡ true → break_of limits b ended ≡ None → EndsWell s p limits names b ended given line last
+  well last is idle told whole = record { told = told; whole = whole; number = is; run = run_is; idle = idle; pends = took.pends }
 
-  pub ends_short : nat_lt (2 ^ 40) (length b) ≡ false → ended ≡ true → is_whole (document_of (lines_of 1048576 (within b) (ends_within b ended)).lines) ≡ false → BrokenOff p names b ended given
-  ends_short small told partial = record { broken = decided small ∙ ap₂ (λ (e w : Bool). e && not w) told partial; pends = all_pends }
-
-  -- where the input may go on, all was given that is known to have happened
-  pub ends_not : nat_lt (2 ^ 40) (length b) ≡ false → ended ≡ false → p.tag ≡ None → GaveAll b ended given
-  ends_not small going none =
-      let whole = decided small ∙ ap (λ (e : Bool). e && not (is_whole (document_of (lines_of 1048576 (within b) (ends_within b ended)).lines))) going in
-      record {
-        all =
-            all_but_held p names (happenings (lines_of 1048576 (within b) (ends_within b ended)).lines) given none t.took.pends t.took.last
-            ∙ ap (λ (x : List (Happening (List ℕ))). length x) (sym (events_going (course_of stated b ended) ended whole going ∙ ap (λ (ls : List Line). without_last_text (happenings ls)) all_lines));
-        whole = whole;
-      }
-
-  pub goes_on : Along r n p names (within b) (ends_within b ended) given
-  goes_on = record {
-    front = (lines_of 1048576 (within b) (ends_within b ended)).lines;
+  -- it is not known yet how the bytes end
+  pub along_all : Along r s p limits names b ended given line
+  along_all = record {
+    small = took.small;
+    front = (reading limits b ended).lines;
     more = [];
-    lines = sym (append-nil (lines_of 1048576 (within b) (ends_within b ended)).lines);
-    reads = t.reads;
-    fit = t.fit;
-    took = t.took;
+    lines = sym (append-nil (reading limits b ended).lines);
+    reads = took.reads;
+    sound = took.sound;
+    knows = took.knows;
+    pends = took.pends;
   }
 
--- a line is at fault or does not fit
-pub ends_broken : (p : Pending) (names : List (List ℕ × List ℕ)) (b : List ℕ) (ended : Bool) (given : ℕ) → Broke p names (within b) (ends_within b ended) given → BrokenOff p names b ended given
-ends_broken p names b ended given k = record { broken = by k.cause; pends = k.pends }
-  where
-    by : ((lines_of 1048576 (within b) (ends_within b ended)).fault ≢ None) ⊎ (all_fit 200 [] (lines_of 1048576 (within b) (ends_within b ended)).lines ≡ false) → (course_of stated b ended).broken ≡ true
-    by (inl fault) = at_fault stated b ended (not_none _ fault)
-    by (inr bad) = at_fit stated b ended bad
+  pub gave_all : IsIdle p → is_beyond limits b ≡ false → ended ≡ false → GaveAll limits b ended given
+  gave_all idle within told =
+      let none = goes_on within told in
+      let events : events_of limits b ended ≡ (course_of limits b ended).events = ap₂ (λ (o : Option DocFault) (e : Bool). events_with (course_of limits b ended) o e) none told ∙ append-nil (course_of limits b ended).events in
+      let all = took.pends.splits ∙ ap (λ (es : List Lined). took.pends.front ++ es) (held_none names p idle) ∙ append-nil took.pends.front in
+      record { all = sym took.pends.number ∙ sym (ap (λ (es : List Lined). length es) (events ∙ all)); whole = none }
 
--- what comes behind the events that waited
-pub gave_broken : (p : Pending) (names : List (List ℕ × List ℕ)) (b : List ℕ) (ended : Bool) (given : ℕ) → p.text ≡ None → p.tag ≡ None → BrokenOff p names b ended given → given ≡ length (events_of stated b ended)
-gave_broken p names b ended given text tag_none off =
-    nothing_held p names _ given text tag_none off.pends
-    ∙ ap (λ (x : List (Happening (List ℕ))). length x) (sym (events_broken (course_of stated b ended) ended off.broken))
+-- ---- what stands where the run of text has been put behind what was given
 
-pub gives_close : (p : Pending) (names : List (List ℕ × List ℕ)) (b : List ℕ) (ended : Bool) (given : ℕ) → p.text ≡ None → p.tag ≡ None → BeforeClose p names b ended given →
-    (slice_get (events_of stated b ended) given ≡ Some closes) × BehindClose p b ended (suc given)
-gives_close p names b ended given text tag_none c =
-    let hs = happenings (course_of stated b ended).lines in
-    let count : given ≡ length hs = nothing_held p names hs given text tag_none c.pends in
-    let events = events_done (course_of stated b ended) ended c.whole c.told in (
-      ap₂ (λ (x : List (Happening (List ℕ))) (k : ℕ). slice_get x k) events count ∙ at_seam hs [] closes,
-      record {
-        told = c.told;
-        whole = c.whole;
-        all = omega (arith, count, length-append hs (closes ∷ []), ap (λ (x : List (Happening (List ℕ))). length x) events);
-        no_text = text;
-        no_tag = tag_none;
-      },
+run_known : (names : List (List ℕ × List ℕ)) (old new : Standing) (p q : Pending) → Flushed old new q.text → IsIdle p → q.event ≡ p.event → (held names q ≡ run_in old.run.text old.run.line) × AreKnown names q
+run_known names old new p q flushed idle same =
+    let none = same ∙ idle.event in (
+      ap₂ (λ (x : List Lined) (o : Option Waiting). x ++ held_in names o) (flushed.waits names).0 none ∙ append-nil (run_in old.run.text old.run.line),
+      record { text = (flushed.waits names).1; event = subst (IsKnownIn names) (sym none) tt },
     )
 
--- where the events begin with what has happened
-pub gives_event : (new : Pending) (names : List (List ℕ × List ℕ)) (b : List ℕ) (ended : Bool) (given : ℕ) (e : Event) (hs rest : List (Happening (List ℕ))) →
-    events_of stated b ended ≡ hs ++ rest → GivesNext new names hs given e → (slice_get (events_of stated b ended) given ≡ Some (named names e)) × IsKnown names e
-gives_event new names b ended given e hs rest events g =
-    (ap (λ (x : List (Happening (List ℕ))). slice_get x given) events ∙ place_stays hs (hs ++ rest) (KeepsPlaces-append hs rest) given (named names e) g.next, g.known)
+pends_with : (p q : Pending) (names : List (List ℕ × List ℕ)) (events here : List Lined) (given line : ℕ) → IsIdle p → held names q ≡ here → AreKnown names q →
+    Pends p names events given line → Pends q names (events ++ here) given line
+pends_with p q names events here given line idle is known pends = record {
+  front = pends.front;
+  number = pends.number;
+  splits = ap₂ (λ (x y : List Lined). x ++ y) (pends.splits ∙ ap (λ (x : List Lined). pends.front ++ x) (held_none names p idle) ∙ append-nil pends.front) (sym is);
+  known = known;
+  last = pends.last;
+}
+
+module _ (old new : Standing) (p q : Pending) (limits : Limits) (names : List (List ℕ × List ℕ)) (b : List ℕ) (ended : Bool) (given line : ℕ) where
+  abbrev c : Course
+  c = course_of limits b ended
+
+  pub pends_broken : (fault : DocFault) → Broke old p limits names b ended given line fault → Flushed old new q.text → q.event ≡ p.event → Pends q names (events_of limits b ended) given line
+  pends_broken fault broken flushed same =
+      let known = run_known names old new p q flushed broken.idle same in
+      subst (λ (es : List Lined). Pends q names es given line) (sym (events_broken limits b ended fault broken.cause))
+      (pends_with p q names c.events (run_of c.place) given line broken.idle (known.0 ∙ broken.run) known.1 broken.pends)
+
+  pub pends_closed : (last : ℕ) → EndsWell old p limits names b ended given line last → Flushed old new q.text → q.event ≡ Some (record { event = event.Close; line = last }) →
+      Pends q names (events_of limits b ended) given line
+  pends_closed last well flushed is =
+      let here : held names q ≡ run_of c.place ++ closing c.place =
+      ap₂ (λ (x : List Lined) (o : Option Waiting). x ++ held_in names o) ((flushed.waits names).0 ∙ well.run) is
+      ∙ ap (λ (n : ℕ). run_of c.place ++ record { what = tree.closes; line = n } ∷ []) well.number in
+      subst (λ (es : List Lined). Pends q names es given line)
+      (sym (ap₂ (λ (o : Option DocFault) (e : Bool). events_with c o e) well.whole well.told))
+      (pends_with p q names c.events (run_of c.place ++ closing c.place) given line well.idle here
+      (record { text = (flushed.waits names).1; event = subst (IsKnownIn names) (sym is) tt }) well.pends)
+
+module _ (old new : Standing) (p q : Pending) where
+  -- no more waits than waited and began
+  pub count_flushed : Flushed old new q.text → q.event ≡ p.event → count_held q ≤ count old.run p
+  count_flushed flushed same =
+      let counted = flushed_count old new q.text flushed in
+      let text = counted.0 in
+      let event : one_of q.event ≡ one_of p.event = ap one_of same in
+      omega (arith, text, event)
+
+  pub count_put : (e : Waiting) → Flushed old new q.text → q.event ≡ Some e → count_held q ≤ count old.run p + 1
+  count_put e flushed is =
+      let counted = flushed_count old new q.text flushed in
+      let text = counted.0 in
+      let event : one_of q.event ≡ 1 = ap one_of is in
+      omega (arith, text, event)
+
+module _ (r : EventReader) (limits : Limits) (names : List (List ℕ × List ℕ)) (b : List ℕ) (ended : Bool) (given : ℕ) where
+  -- it is known how the bytes end
+  pub rests_ended : (e : Ending) → r.ending ≡ Some e → StandsAt (Some e) r limits names b ended given → Rests r limits names b ended given
+  rests_ended e is stands = record {
+    stands = subst (λ (o : Option Ending). StandsAt o r limits names b ended given) (sym is) stands;
+    idle = λ idle none. absurd (cc);
+  }
+
+  -- it is not known yet
+  pub rests_going : r.ending ≡ None → Going r limits names b ended given → (IsIdle r.pending → GaveAll limits b ended given) → Rests r limits names b ended given
+  rests_going none going idle = record {
+    stands = subst (λ (o : Option Ending). StandsAt o r limits names b ended given) (sym none) going;
+    idle = λ quiet _. idle quiet;
+  }

@@ -1,111 +1,101 @@
--- What a reader stands for after more bytes, and after it was told of the end.
-use Rattle.std.proofs.Common.{◌≡◌, ℕ, ◌-◌, ◌^◌, min, Bool, true, false, not, nat_lt, List, [], ◌++◌, length, take, Option, Some, None, is_some, refl, ap, sym, ◌∙◌, subst, arith, append_assoc, append-nil, ltb}
-use Rattle.std.proofs.lemmas.Bool.{false≢true, ltb-true, ltb-false}
-use Rattle.std.proofs.lemmas.List.{take_all, take-append-le}
+-- More bytes, and the end of them.
+use Rattle.std.proofs.Common.{◌≡◌, ℕ, Bool, true, false, List, [], ◌++◌, length, Option, Some, None, is_some, refl, ap, sym, ◌∙◌, subst, arith, append_assoc, append-nil}
+use Rattle.std.proofs.lemmas.Bool.{false≢true, le-ltb}
 use Rattle.sx_esis.specs.Lines.{Line}
 use Rattle.sx_esis.specs.Stands as reader
 use Rattle.sx_esis.specs.declared.reader.LineReader.{LineReader}
-use Rattle.sx_esis.proofs.Grow.{reading_grows}
-use Rattle.sx_events.specs.Form.{happenings, stated}
-use Rattle.sx_events.specs.Pending.{Pends}
-use Rattle.sx_events.specs.Reader.{Along, within, ends_within, Going, BrokenOff, StandsAt, Stands}
-use Rattle.sx_events.specs.declared.nesting.Nesting.{Nesting}
-use Rattle.sx_events.specs.declared.pending.Pending.{Pending}
+use Rattle.sx_events.specs.Course.{Lined, reading, events_of}
+use Rattle.sx_events.specs.Pending.{IsIdle, IsKnownIn, Pends}
+use Rattle.sx_events.specs.Place.{beginning}
+use Rattle.sx_events.specs.Reader.{Reads, Along, Going, BrokenOff, StandsAt, Stands}
+use Rattle.sx_events.specs.Standing.{IsSmall, Knows}
 use Rattle.sx_events.specs.declared.event_reader.Ending.{Ending}
 use Rattle.sx_events.specs.declared.event_reader.Ending.TheVariants as ending
 use Rattle.sx_events.specs.declared.event_reader.EventReader.{EventReader}
-use Rattle.sx_events.proofs.Reach.{broken_stays, take_more}
-
--- as many as there are
-take_fewer : (n k : ℕ) (d : List ℕ) → n ≡ min (length d) k → take n d ≡ take k d
-take_fewer n k d is = by (ltb k (length d)) refl
-  where
-    by : (v : Bool) → ltb k (length d) ≡ v → take n d ≡ take k d
-    by true h =
-        let lt = ltb-true k (length d) h in
-        let same : n ≡ k = omega (arith, is, lt) in
-        ap (λ (m : ℕ). take m d) same
-    by false h =
-        let le = ltb-false k (length d) h in
-        take_all n d (omega (arith, is, le)) ∙ sym (take_all k d le)
-
--- the bytes within the limit, with more
-pub within_more : (b d w : List ℕ) (n total : ℕ) → w ≡ take n d → n ≡ min (length d) (2 ^ 40 - total) → total ≡ min (length b) (2 ^ 64 - 1) → within (b ++ d) ≡ within b ++ w
-within_more b d w n total front count counted = by (ltb (2 ^ 40) (length b)) refl
-  where
-    by : (v : Bool) → ltb (2 ^ 40) (length b) ≡ v → within (b ++ d) ≡ within b ++ w
-    by true h =
-        let lt = ltb-true (2 ^ 40) (length b) h in
-        let none : n ≡ 0 = omega (arith, count, counted, lt) in
-        take-append-le (2 ^ 40) b d (omega (arith, lt)) ∙ sym (append-nil (within b)) ∙ ap (λ (x : List ℕ). within b ++ x) (sym (front ∙ ap (λ (m : ℕ). take m d) none))
-    by false h =
-        let le = ltb-false (2 ^ 40) (length b) h in
-        let room : 2 ^ 40 - total ≡ 2 ^ 40 - length b = omega (arith, counted, le) in
-        take_more (2 ^ 40) b d le
-        ∙ ap (λ (x : List ℕ). x ++ take (2 ^ 40 - length b) d) (sym (take_all (2 ^ 40) b le))
-        ∙ ap (λ (x : List ℕ). within b ++ x) (sym (front ∙ take_fewer n (2 ^ 40 - length b) d (count ∙ ap (λ (k : ℕ). min (length d) k) room)))
+use Rattle.sx_events.specs.declared.faults.DocFault.{DocFault}
+use Rattle.sx_events.specs.declared.limits.Limits.{Limits}
+use Rattle.sx_events.specs.declared.pending.Pending.{Pending}
+use Rattle.sx_events.specs.declared.standing.Standing.{Standing}
+use Rattle.sx_events.proofs.Growths.{broken_stays, lines_grow}
+use Rattle.sx_events.proofs.Lines.{held_none}
+use Rattle.sx_events.proofs.Looks.{looks_within}
 
 -- the lines that were taken of fewer bytes are the first of more
-along_more : (r r' : LineReader) (n : Nesting) (p : Pending) (names : List (List ℕ × List ℕ)) (b w : List ℕ) (ended : Bool) (given : ℕ) (a : Along r n p names b false given) →
-    reader.Stands r' 1048576 (b ++ w) ended (length a.front) → Along r' n p names (b ++ w) ended given
-along_more r r' n p names b w ended given a stands =
-    let m = reading_grows 1048576 b w ended in
+pub along_more : (r r' : LineReader) (s : Standing) (p : Pending) (limits : Limits) (names : List (List ℕ × List ℕ)) (b d : List ℕ) (ended : Bool) (given line : ℕ) (a : Along r s p limits names b false given line) →
+    Reads r' limits (b ++ d) ended (length a.front) → Along r' s p limits names (b ++ d) ended given line
+along_more r r' s p limits names b d ended given line a reads =
+    let m = lines_grow limits b d ended in
     record {
+      small = a.small;
       front = a.front;
       more = a.more ++ m.0;
       lines = m.1 ∙ ap (λ (ls : List Line). ls ++ m.0) a.lines ∙ append_assoc a.front a.more m.0;
-      reads = stands;
-      fit = a.fit;
-      took = a.took;
+      reads = reads;
+      sound = a.sound;
+      knows = a.knows;
+      pends = a.pends;
     }
 
-pub along_fed : (r r' : LineReader) (n : Nesting) (p : Pending) (names : List (List ℕ × List ℕ)) (b d w : List ℕ) (given : ℕ) → within (b ++ d) ≡ within b ++ w → (a : Along r n p names (within b) false given) →
-    reader.Stands r' 1048576 (within b ++ w) false (length a.front) → Along r' n p names (within (b ++ d)) false given
-along_fed r r' n p names b d w given is a stands =
-    subst (λ (x : List ℕ). Along r' n p names x false given) (sym is) (along_more r r' n p names (within b) w false given a stands)
-
--- within the limit the end of the input is the end of the lines
-pub along_told : (r r' : LineReader) (n : Nesting) (p : Pending) (names : List (List ℕ × List ℕ)) (b : List ℕ) (given : ℕ) → nat_lt (2 ^ 40) (length b) ≡ false → (a : Along r n p names (within b) false given) →
-    reader.Stands r' 1048576 (within b) true (length a.front) → Along r' n p names (within b) (ends_within b true) given
-along_told r r' n p names b given small a stands =
-    subst (λ (e : Bool). Along r' n p names (within b) e given) (sym (ap not small))
-    (subst (λ (x : List ℕ). Along r' n p names x true given) (append-nil (within b))
-    (along_more r r' n p names (within b) [] true given a (subst (λ (x : List ℕ). reader.Stands r' 1048576 x true (length a.front)) (sym (append-nil (within b))) stands)))
-
--- beyond the limit it is not looked at
-pub along_beyond : (r : LineReader) (n : Nesting) (p : Pending) (names : List (List ℕ × List ℕ)) (b : List ℕ) (given : ℕ) → nat_lt (2 ^ 40) (length b) ≡ true → Along r n p names (within b) false given →
-    Along r n p names (within b) (ends_within b true) given
-along_beyond r n p names b given large a = subst (λ (e : Bool). Along r n p names (within b) e given) (sym (ap not large)) a
+-- the input has ended behind them
+pub along_told : (r r' : LineReader) (s : Standing) (p : Pending) (limits : Limits) (names : List (List ℕ × List ℕ)) (b : List ℕ) (given line : ℕ) (a : Along r s p limits names b false given line) →
+    Reads r' limits b true (length a.front) → Along r' s p limits names b true given line
+along_told r r' s p limits names b given line a reads =
+    subst (λ (x : List ℕ). Along r' s p limits names x true given line) (append-nil b)
+    (along_more r r' s p limits names b [] true given line a (subst (λ (x : List ℕ). Reads r' limits x true (length a.front)) (sym (append-nil b)) reads))
 
 -- bytes that are broken off stay so
-broken_more : (p : Pending) (names : List (List ℕ × List ℕ)) (b d : List ℕ) (ended : Bool) (given : ℕ) → BrokenOff p names b false given → BrokenOff p names (b ++ d) ended given
-broken_more p names b d ended given off =
-    let s = broken_stays stated b d ended off.broken in
-    record { broken = s.0; pends = subst (λ (ls : List Line). Pends p names (happenings ls) given) (sym s.1) off.pends }
+broken_more : (r r' : EventReader) (limits : Limits) (names : List (List ℕ × List ℕ)) (b d : List ℕ) (ended : Bool) (given : ℕ) (fault : DocFault) → r'.pending ≡ r.pending → r'.line ≡ r.line →
+    BrokenOff r limits names b false given fault → BrokenOff r' limits names (b ++ d) ended given fault
+broken_more r r' limits names b d ended given fault pending line off =
+    let stays = broken_stays limits b d ended fault off.broken in
+    record {
+      broken = stays.stays;
+      pends =
+          subst (λ (p : Pending). Pends p names (events_of limits (b ++ d) ended) given r'.line) (sym pending)
+          (subst (λ (n : ℕ). Pends r.pending names (events_of limits (b ++ d) ended) given n) (sym line)
+          (subst (λ (es : List Lined). Pends r.pending names es given r.line) (sym stays.events) off.pends));
+    }
 
-fed_at : (o : Option Ending) (r : EventReader) (names : List (List ℕ × List ℕ)) (b d : List ℕ) (given : ℕ) → is_some o ≡ true → StandsAt o r names b false given → StandsAt o r names (b ++ d) false given
-fed_at None r names b d given known s = absurd (false≢true known)
-fed_at (Some ending.Broken) r names b d given known s = broken_more r.pending names b d false given s
-fed_at (Some ending.Whole) r names b d given known s = absurd (false≢true s.told)
-fed_at (Some ending.Closed) r names b d given known s = absurd (false≢true s.told)
+fed_at : (o : Option Ending) (r : EventReader) (limits : Limits) (names : List (List ℕ × List ℕ)) (b d : List ℕ) (given : ℕ) → is_some o ≡ true → StandsAt o r limits names b false given → StandsAt o r limits names (b ++ d) false given
+fed_at None r limits names b d given known s = absurd (false≢true known)
+fed_at (Some (ending.Broken fault)) r limits names b d given known s = broken_more r r limits names b d false given fault refl refl s
+fed_at (Some ending.Whole) r limits names b d given known s = absurd (false≢true s.told)
 
-pub stands_fed : (r : EventReader) (names : List (List ℕ × List ℕ)) (b d : List ℕ) (given : ℕ) → is_some r.ending ≡ true → Stands r names b false given → Stands r names (b ++ d) false given
-stands_fed r names b d given known s = fed_at r.ending r names b d given known s
+-- where it is known how the bytes end, more are dropped
+pub stands_fed : (r : EventReader) (limits : Limits) (names : List (List ℕ × List ℕ)) (b d : List ℕ) (given : ℕ) → is_some r.ending ≡ true → Stands r limits names b false given → Stands r limits names (b ++ d) false given
+stands_fed r limits names b d given known s = fed_at r.ending r limits names b d given known s
 
-pub told_at : (o : Option Ending) (r r' : EventReader) (names : List (List ℕ × List ℕ)) (b : List ℕ) (given : ℕ) → r'.pending ≡ r.pending → (Going r names b false given → Going r' names b true given) →
-    StandsAt o r names b false given → StandsAt o r' names b true given
-told_at None r r' names b given same going s = going s
-told_at (Some ending.Broken) r r' names b given same going s =
-    subst (λ (p : Pending). BrokenOff p names b true given) (sym same) (subst (λ (x : List ℕ). BrokenOff r.pending names x true given) (append-nil b) (broken_more r.pending names b [] true given s))
-told_at (Some ending.Whole) r r' names b given same going s = absurd (false≢true s.told)
-told_at (Some ending.Closed) r r' names b given same going s = absurd (false≢true s.told)
+-- the same, where the reader was told of the end
+pub told_at : (o : Option Ending) (r r' : EventReader) (limits : Limits) (names : List (List ℕ × List ℕ)) (b : List ℕ) (given : ℕ) → r'.pending ≡ r.pending → r'.line ≡ r.line →
+    (Going r limits names b false given → Going r' limits names b true given) → StandsAt o r limits names b false given → StandsAt o r' limits names b true given
+told_at None r r' limits names b given pending line going s = going s
+told_at (Some (ending.Broken fault)) r r' limits names b given pending line going s =
+    subst (λ (x : List ℕ). BrokenOff r' limits names x true given fault) (append-nil b) (broken_more r r' limits names b [] true given fault pending line s)
+told_at (Some ending.Whole) r r' limits names b given pending line going s = absurd (false≢true s.told)
 
-pub same_at : (o : Option Ending) (r r' : EventReader) (names : List (List ℕ × List ℕ)) (b : List ℕ) (ended : Bool) (given : ℕ) → r'.pending ≡ r.pending → (Going r names b ended given → Going r' names b ended given) →
-    StandsAt o r names b ended given → StandsAt o r' names b ended given
-same_at None r r' names b ended given same going s = going s
-same_at (Some ending.Broken) r r' names b ended given same going s = rw same s
-same_at (Some ending.Whole) r r' names b ended given same going s = rw same s
-same_at (Some ending.Closed) r r' names b ended given same going s = rw same s
+-- where nothing but the reader of lines has changed
+pub same_at : (o : Option Ending) (r r' : EventReader) (limits : Limits) (names : List (List ℕ × List ℕ)) (b : List ℕ) (ended : Bool) (given : ℕ) → r'.pending ≡ r.pending → r'.line ≡ r.line →
+    (Going r limits names b ended given → Going r' limits names b ended given) → StandsAt o r limits names b ended given → StandsAt o r' limits names b ended given
+same_at None r r' limits names b ended given pending line going s = going s
+same_at (Some (ending.Broken fault)) r r' limits names b ended given pending line going s = record { broken = s.broken; pends = rw (pending, line) s.pends }
+same_at (Some ending.Whole) r r' limits names b ended given pending line going s = record { told = s.told; whole = s.whole; pends = rw (pending, line) s.pends }
 
-pub stands_going : (r : EventReader) (names : List (List ℕ × List ℕ)) (b : List ℕ) (ended : Bool) (given : ℕ) → r.ending ≡ None → Going r names b ended given → Stands r names b ended given
-stands_going r names b ended given none going = subst (λ (o : Option Ending). StandsAt o r names b ended given) (sym none) going
+-- nothing was fed
+pub along_first : (r : LineReader) (s : Standing) (p : Pending) (limits : Limits) (names : List (List ℕ × List ℕ)) → IsSmall limits → reader.Stands r limits.line [] false 0 → Knows s beginning → IsIdle p →
+    Along r s p limits names [] false 0 0
+along_first r s p limits names small reads knows idle = record {
+  small = small;
+  front = [];
+  more = (reading limits [] false).lines;
+  lines = refl;
+  reads = subst (λ (x : List ℕ). reader.Stands r limits.line x false 0) (sym (looks_within limits [] (le-ltb limits.bytes 0 (omega arith)))) reads;
+  sound = refl;
+  knows = knows;
+  pends = record {
+    front = [];
+    number = refl;
+    splits = sym (held_none names p idle);
+    known = record { text = subst (IsKnownIn names) (sym idle.text) tt; event = subst (IsKnownIn names) (sym idle.event) tt };
+    last = refl;
+  };
+}

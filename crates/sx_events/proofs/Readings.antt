@@ -1,144 +1,144 @@
 -- What a reader stands for after each call.
-use Rattle.std.proofs.Common.{◌≡◌, ℕ, suc, ◌+◌, ◌<◌, Bool, true, false, List, [], ◌∷◌, slice_get, Option, Some, None, Ok, Err, is_some, refl, ap, ap₂, sym, ◌∙◌, subst, arith, append-nil}
+use Rattle.std.proofs.Common.{◌≡◌, ℕ, zero, suc, Bool, true, false, List, [], ◌∷◌, ◌++◌, length, slice_get, Option, Some, None, Ok, Err, is_some, refl, ap, ap₂, sym, ◌∙◌, subst, append-nil, append_assoc}
 use Rattle.std.proofs.lemmas.Bool.{false≢true}
 use Rattle.sx_names.specs.Numbering.{KeepsPlaces}
-use Rattle.sx_tree.specs.Events.{ends_in_text as text_is_last}
-use Rattle.sx_tree.specs.Tree.{Happening, closes}
-use Rattle.sx_tree.specs.declared.events.Event.{Event}
-use Rattle.sx_events.specs.Form.{happenings, course_of, events_of, stated}
-use Rattle.sx_events.specs.Pending.{named, IsKnown, one_of, count_held, text_waits, ends_in_held_text, Pends, GivesNext}
-use Rattle.sx_events.specs.Reader.{Going, BrokenOff, BeforeClose, BehindClose, StandsAt, Stands, GaveAll, Rests, Gives}
-use Rattle.sx_events.specs.declared.event_reader.DocFault.{DocFault}
+use Rattle.sx_tree.specs.Named.{Begun, named, IsKnown}
+use Rattle.sx_tree.specs.Tree.{Happening}
+use Rattle.sx_events.specs.Course.{Lined, course, events_of, whats, line_behind}
+use Rattle.sx_events.specs.Pending.{held, IsIdle, Pends, GivesNext}
+use Rattle.sx_events.specs.Place.{beginning}
+use Rattle.sx_events.specs.Reader.{Going, BrokenOff, Whole, StandsAt, Stands, Rests, Gives}
 use Rattle.sx_events.specs.declared.event_reader.Ending.{Ending}
 use Rattle.sx_events.specs.declared.event_reader.Ending.TheVariants as ending
 use Rattle.sx_events.specs.declared.event_reader.EventReader.{EventReader}
+use Rattle.sx_events.specs.declared.faults.DocFault.{DocFault}
+use Rattle.sx_events.specs.declared.limits.Limits.{Limits}
 use Rattle.sx_events.specs.declared.pending.Pending.{Pending}
-use Rattle.sx_events.specs.declared.pending.Tag.{Tag}
-use Rattle.sx_events.proofs.Endings.{events_broken, events_done, events_begin, gave_broken, gives_close, gives_event}
-use Rattle.sx_events.proofs.Nestings.{nested_kept}
-use Rattle.sx_events.proofs.Pendings.{pends_kept}
+use Rattle.sx_events.specs.declared.pending.Waiting.{Waiting}
+use Rattle.sx_events.proofs.Givings.{front_line}
+use Rattle.sx_events.proofs.Growths.{whats-append, events_front}
+use Rattle.sx_events.proofs.Lines.{held_none}
+use Rattle.sx_events.proofs.Namings.{pends_stay}
 
-module _ (r : EventReader) (names : List (List ℕ × List ℕ)) (b : List ℕ) (ended : Bool) (given : ℕ) where
-  -- it is known how the bytes end
-  pub rests_ended : (e : Ending) → r.ending ≡ Some e → StandsAt (Some e) r names b ended given → Rests r names b ended given
-  rests_ended e is s = record {
-    stands = subst (λ (o : Option Ending). StandsAt o r names b ended given) (sym is) s;
-    idle = λ no_tag none. absurd (cc);
-  }
+-- more events change none that was there
+still_there : (xs ys : List (Happening Begun)) (n : ℕ) (h : Happening Begun) → slice_get xs n ≡ Some h → slice_get (xs ++ ys) n ≡ Some h
+still_there [] ys n h is = absurd (cc)
+still_there (x ∷ xs) ys zero h is = is
+still_there (x ∷ xs) ys (suc n) h is = still_there xs ys n h is
 
-  -- it is not known yet
-  pub rests_going : r.ending ≡ None → Going r names b ended given → (r.pending.tag ≡ None → GaveAll b ended given) → Rests r names b ended given
-  rests_going none going idle = record {
-    stands = subst (λ (o : Option Ending). StandsAt o r names b ended given) (sym none) going;
-    idle = λ no_tag _. idle no_tag;
-  }
+event_there : (events more : List Lined) (n : ℕ) (h : Happening Begun) → slice_get (whats events) n ≡ Some h → slice_get (whats (events ++ more)) n ≡ Some h
+event_there events more n h is = ap (λ (xs : List (Happening Begun)). slice_get xs n) (whats-append events more) ∙ still_there (whats events) (whats more) n h is
 
-  -- where it is known how the bytes end, the reader has read on
-  pub rests_known : is_some r.ending ≡ true → Stands r names b ended given → Rests r names b ended given
-  rests_known known s = record { stands = s; idle = λ no_tag none. absurd (false≢true (sym (ap is_some none) ∙ known)) }
+-- the line of the last event given
+pends_line : (p : Pending) (names : List (List ℕ × List ℕ)) (events more : List Lined) (given line : ℕ) → Pends p names events given line → line ≡ line_behind (events ++ more) given
+pends_line p names events more given line pends =
+    let front = pends.front in
+    let rest = held names p ++ more in
+    let all : events ++ more ≡ front ++ rest = ap (λ (es : List Lined). es ++ more) pends.splits ∙ append_assoc front (held names p) more in
+    pends.last ∙ ap (line_behind front) (sym pends.number) ∙ sym (front_line front rest) ∙ ap₂ line_behind (sym all) pends.number
 
-  pub going_of : r.ending ≡ None → Stands r names b ended given → Going r names b ended given
-  going_of none s = subst (λ (o : Option Ending). StandsAt o r names b ended given) none s
+-- where nothing waits, all was given
+gave_length : (p : Pending) (names : List (List ℕ × List ℕ)) (events : List Lined) (given line : ℕ) → IsIdle p → Pends p names events given line → given ≡ length events
+gave_length p names events given line idle pends =
+    sym pends.number ∙ sym (ap (λ (es : List Lined). length es) (pends.splits ∙ ap (λ (es : List Lined). pends.front ++ es) (held_none names p idle) ∙ append-nil pends.front))
 
 -- the same reader with other events that wait
-abbrev pub with_pending : EventReader → Pending → EventReader
-with_pending r p = record { lines = r.lines; nesting = r.nesting; pending = p; total = r.total; ended = r.ended; ending = r.ending; spent = r.spent }
+abbrev pub with_pending : EventReader → Pending → ℕ → EventReader
+with_pending r p line = record { limits = r.limits; lines = r.lines; standing = r.standing; pending = p; total = r.total; ended = r.ended; ending = r.ending; line = line; spent = r.spent }
+
+module _ (r : EventReader) (limits : Limits) (names : List (List ℕ × List ℕ)) (b : List ℕ) (ended : Bool) (given : ℕ) where
+  line_at : (o : Option Ending) → StandsAt o r limits names b ended given → r.line ≡ line_behind (events_of limits b ended) given
+  line_at None s =
+      let a = s.along in
+      let more = events_front limits b ended a.front a.more a.lines a.sound in
+      pends_line r.pending names (course limits beginning a.front).events more.0 given r.line a.pends ∙ ap (λ (es : List Lined). line_behind es given) (sym more.1)
+  line_at (Some (ending.Broken fault)) s =
+      pends_line r.pending names (events_of limits b ended) [] given r.line s.pends ∙ ap (λ (es : List Lined). line_behind es given) (append-nil (events_of limits b ended))
+  line_at (Some ending.Whole) s =
+      pends_line r.pending names (events_of limits b ended) [] given r.line s.pends ∙ ap (λ (es : List Lined). line_behind es given) (append-nil (events_of limits b ended))
+
+  -- the line of the last event given
+  pub line_is : Stands r limits names b ended given → r.line ≡ line_behind (events_of limits b ended) given
+  line_is s = line_at r.ending s
+
+  pub going_of : r.ending ≡ None → Stands r limits names b ended given → Going r limits names b ended given
+  going_of none s = subst (λ (o : Option Ending). StandsAt o r limits names b ended given) none s
+
+  pub stands_going : r.ending ≡ None → Going r limits names b ended given → Stands r limits names b ended given
+  stands_going none s = subst (λ (o : Option Ending). StandsAt o r limits names b ended given) (sym none) s
+
+  -- where it is known how the bytes end, the reader has read on
+  pub rests_known : is_some r.ending ≡ true → Stands r limits names b ended given → Rests r limits names b ended given
+  rests_known known s = record { stands = s; idle = λ idle none. absurd (false≢true (sym (ap is_some none) ∙ known)) }
+
+  module _ (p : Pending) (w : Waiting) (next : (events : List Lined) (line : ℕ) → Pends r.pending names events given line → GivesNext p names events given w) where
+    gives_at : (o : Option Ending) → StandsAt o r limits names b ended given →
+        (slice_get (whats (events_of limits b ended)) given ≡ Some (named names w.event)) × IsKnown names w.event × StandsAt o (with_pending r p w.line) limits names b ended (suc given)
+    gives_at None s =
+        let a = s.along in
+        let events = (course limits beginning a.front).events in
+        let more = events_front limits b ended a.front a.more a.lines a.sound in
+        let g = next events r.line a.pends in (
+          ap (λ (es : List Lined). slice_get (whats es) given) more.1 ∙ event_there events more.0 given (named names w.event) g.next,
+          g.known,
+          record {
+            counted = record { same = s.counted.same; total = s.counted.total; told = s.counted.told };
+            along = record { small = a.small; front = a.front; more = a.more; lines = a.lines; reads = a.reads; sound = a.sound; knows = a.knows; pends = g.pends };
+          },
+        )
+    gives_at (Some (ending.Broken fault)) s =
+        let g = next (events_of limits b ended) r.line s.pends in
+        (g.next, g.known, record { broken = s.broken; pends = g.pends })
+    gives_at (Some ending.Whole) s =
+        let g = next (events_of limits b ended) r.line s.pends in
+        (g.next, g.known, record { told = s.told; whole = s.whole; pends = g.pends })
+
+    -- an event that waited is given
+    pub gives_event : Rests r limits names b ended given → Gives limits names b ended given (with_pending r p w.line) (Some (Ok w.event))
+    gives_event rests = gives_at r.ending rests.stands
+
+  -- nothing waits, and it is not known how the bytes end
+  pub gives_none : IsIdle r.pending → r.ending ≡ None → Rests r limits names b ended given → Gives limits names b ended given r None
+  gives_none idle none rests =
+      let all = rests.idle idle none in
+      (all.all, all.whole, rests.stands)
+
+  -- nothing waits, and the bytes are broken off
+  pub gives_fault : (fault : DocFault) → IsIdle r.pending → r.ending ≡ Some (ending.Broken fault) → Rests r limits names b ended given → Gives limits names b ended given r (Some (Err fault))
+  gives_fault fault idle is rests =
+      let s : BrokenOff r limits names b ended given fault = subst (λ (o : Option Ending). StandsAt o r limits names b ended given) is rests.stands in
+      (gave_length r.pending names (events_of limits b ended) given r.line idle s.pends, s.broken, rests.stands)
+
+  -- nothing waits, and the bytes have ended well
+  pub gives_nothing : IsIdle r.pending → r.ending ≡ Some ending.Whole → Rests r limits names b ended given → Gives limits names b ended given r None
+  gives_nothing idle is rests =
+      let s : Whole r limits names b ended given = subst (λ (o : Option Ending). StandsAt o r limits names b ended given) is rests.stands in
+      (gave_length r.pending names (events_of limits b ended) given r.line idle s.pends, s.whole, rests.stands)
 
 pub no_ending : (o : Option Ending) → is_some o ≡ false → o ≡ None
 no_ending None h = refl
 no_ending (Some e) h = absurd (false≢true (sym h))
 
-some_tag : (t : Option Tag) (text : Option (List ℕ)) → is_some t ≡ true → text_waits t text ≡ false
-some_tag None text h = absurd (false≢true h)
-some_tag (Some t) text h = refl
-
-module _ (r : EventReader) (p : Pending) (names : List (List ℕ × List ℕ)) (b : List ℕ) (ended : Bool) (given : ℕ) (e : Event)
-    (next : (hs : List (Happening (List ℕ))) → Pends r.pending names hs given → GivesNext p names hs given e)
-    (fewer : count_held p < count_held r.pending) (no_text : ends_in_held_text p ≡ false) where
-  -- an event that waited is given
-  gives_at : (o : Option Ending) → (o ≡ None → is_some r.pending.tag ≡ true) → StandsAt o r names b ended given →
-      (slice_get (events_of stated b ended) given ≡ Some (named names e)) × IsKnown names e × StandsAt o (with_pending r p) names b ended (suc given)
-  gives_at None due s =
-      let a = s.along in
-      let last : text_is_last (happenings a.front) ≡ false = a.took.last ∙ some_tag r.pending.tag r.pending.text (due refl) in
-      let g = next (happenings a.front) a.took.pends in
-      let begin = events_begin r.lines r.nesting r.pending names b ended given a last in
-      let is = gives_event p names b ended given e (happenings a.front) begin.0 begin.1 g in (
-        is.0,
-        is.1,
-        record {
-          counted = record { total = s.counted.total; told = s.counted.told };
-          along = record {
-            front = a.front;
-            more = a.more;
-            lines = a.lines;
-            reads = a.reads;
-            fit = a.fit;
-            took = record { nested = a.took.nested; pends = g.pends; last = last ∙ sym no_text };
-          };
-        },
-      )
-  gives_at (Some ending.Broken) due s =
-      let hs = happenings (course_of stated b ended).lines in
-      let g = next hs s.pends in
-      let is = gives_event p names b ended given e hs [] (events_broken (course_of stated b ended) ended s.broken ∙ sym (append-nil hs)) g in
-      (is.0, is.1, record { broken = s.broken; pends = g.pends })
-  gives_at (Some ending.Whole) due s =
-      let hs = happenings (course_of stated b ended).lines in
-      let g = next hs s.pends in
-      let is = gives_event p names b ended given e hs (closes ∷ []) (events_done (course_of stated b ended) ended s.whole s.told) g in
-      (is.0, is.1, record { told = s.told; whole = s.whole; pends = g.pends })
-  gives_at (Some ending.Closed) due s =
-      let none : count_held r.pending ≡ 0 = ap₂ (λ (x : Option (List ℕ)) (t : Option Tag). one_of x + one_of t) s.no_text s.no_tag in
-      absurd (omega (arith, none, fewer))
-
-  pub gives_waiting : (r.ending ≡ None → is_some r.pending.tag ≡ true) → Rests r names b ended given → Gives names b ended given (with_pending r p) (Some (Ok e))
-  gives_waiting due rests = gives_at r.ending due rests.stands
-
-module _ (r : EventReader) (names : List (List ℕ × List ℕ)) (b : List ℕ) (ended : Bool) (given : ℕ) where
-  -- nothing is due
-  pub gives_none : r.pending.tag ≡ None → r.ending ≡ None → Rests r names b ended given → Gives names b ended given r None
-  gives_none no_tag none rests =
-      let idle = rests.idle no_tag none in
-      (idle.all, idle.whole, rests.stands)
-
-  pub gives_fault : (f : DocFault) → r.ending ≡ Some ending.Broken → r.pending.text ≡ None → r.pending.tag ≡ None → Rests r names b ended given → Gives names b ended given r (Some (Err f))
-  gives_fault f is no_text no_tag rests =
-      let s : BrokenOff r.pending names b ended given = subst (λ (o : Option Ending). StandsAt o r names b ended given) is rests.stands in
-      (gave_broken r.pending names b ended given no_text no_tag s, s.broken, rests.stands)
-
-  pub gives_nothing : r.ending ≡ Some ending.Closed → Rests r names b ended given → Gives names b ended given r None
-  gives_nothing is rests =
-      let s : BehindClose r.pending b ended given = subst (λ (o : Option Ending). StandsAt o r names b ended given) is rests.stands in
-      (s.all, s.whole, rests.stands)
-
-  pub gives_closes : r.ending ≡ Some ending.Whole → r.pending.text ≡ None → r.pending.tag ≡ None → Rests r names b ended given →
-      (slice_get (events_of stated b ended) given ≡ Some closes) × Unit {0} × BehindClose r.pending b ended (suc given)
-  gives_closes is no_text no_tag rests =
-      let s : BeforeClose r.pending names b ended given = subst (λ (o : Option Ending). StandsAt o r names b ended given) is rests.stands in
-      let g = gives_close r.pending names b ended given no_text no_tag s in
-      (g.0, tt, g.1)
-
 -- more names change nothing
-kept_at : (o : Option Ending) (r : EventReader) (old new : List (List ℕ × List ℕ)) (b : List ℕ) (ended : Bool) (given : ℕ) → KeepsPlaces old new → StandsAt o r old b ended given → StandsAt o r new b ended given
-kept_at None r old new b ended given kept s = record {
-  counted = s.counted;
-  along = record {
-    front = s.along.front;
-    more = s.along.more;
-    lines = s.along.lines;
-    reads = s.along.reads;
-    fit = s.along.fit;
-    took = record {
-      nested = nested_kept r.nesting old new s.along.front kept s.along.took.nested;
-      pends = pends_kept r.pending old new (happenings s.along.front) given kept s.along.took.pends;
-      last = s.along.took.last;
-    };
-  };
-}
-kept_at (Some ending.Broken) r old new b ended given kept s = record { broken = s.broken; pends = pends_kept r.pending old new _ given kept s.pends }
-kept_at (Some ending.Whole) r old new b ended given kept s = record { told = s.told; whole = s.whole; pends = pends_kept r.pending old new _ given kept s.pends }
-kept_at (Some ending.Closed) r old new b ended given kept s = s
+kept_at : (o : Option Ending) (r : EventReader) (limits : Limits) (old new : List (List ℕ × List ℕ)) (b : List ℕ) (ended : Bool) (given : ℕ) → KeepsPlaces old new → StandsAt o r limits old b ended given → StandsAt o r limits new b ended given
+kept_at None r limits old new b ended given kept s =
+    let a = s.along in
+    record {
+      counted = s.counted;
+      along = record {
+        small = a.small;
+        front = a.front;
+        more = a.more;
+        lines = a.lines;
+        reads = a.reads;
+        sound = a.sound;
+        knows = a.knows;
+        pends = pends_stay old new kept r.pending (course limits beginning a.front).events given r.line a.pends;
+      };
+    }
+kept_at (Some (ending.Broken fault)) r limits old new b ended given kept s = record { broken = s.broken; pends = pends_stay old new kept r.pending (events_of limits b ended) given r.line s.pends }
+kept_at (Some ending.Whole) r limits old new b ended given kept s = record { told = s.told; whole = s.whole; pends = pends_stay old new kept r.pending (events_of limits b ended) given r.line s.pends }
 
-pub stands_kept : (r : EventReader) (old new : List (List ℕ × List ℕ)) (b : List ℕ) (ended : Bool) (given : ℕ) → KeepsPlaces old new → Stands r old b ended given → Stands r new b ended given
-stands_kept r old new b ended given kept s = kept_at r.ending r old new b ended given kept s
+-- What a reader stands for by some names it stands for by all that keep their places.
+pub stands_kept : (r : EventReader) (limits : Limits) (old new : List (List ℕ × List ℕ)) (b : List ℕ) (ended : Bool) (given : ℕ) → KeepsPlaces old new → Stands r limits old b ended given → Stands r limits new b ended given
+stands_kept r limits old new b ended given kept s = kept_at r.ending r limits old new b ended given kept s

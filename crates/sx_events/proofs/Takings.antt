@@ -1,165 +1,142 @@
--- Taking lines one by one.
-use Rattle.std.proofs.Common.{◌≡◌, inl, inr, ℕ, ◌+◌, Bool, true, false, not, cond, ◌&&◌, List, [], ◌∷◌, ◌++◌, length, slice_get, Option, Some, None, is_some, refl, ap, ap₂, sym, ◌∙◌, subst, arith, append_assoc, append-nil, length-append}
+-- What is known behind one line more, and which events it makes.
+use Rattle.std.proofs.Common.{◌≡◌, ℕ, suc, ◌+◌, ◌≤◌, Bool, true, false, not, cond, ◌&&◌, ◌||◌, List, [], ◌∷◌, ◌++◌, Option, Some, None, Result, Ok, Err, IfOk, refl, ap, ap₂, sym, ◌∙◌, subst, arith, append-nil}
 use Rattle.std.proofs.lemmas.Bool.{false≢true}
-use Rattle.std.proofs.lemmas.List.{nil_from_length}
-use Rattle.sx_esis.specs.Lines.{Line, starts, ends, says, conforms, lines_of}
-use Rattle.sx_esis.specs.Gives.{GaveAll, GivesFault}
-use Rattle.sx_esis.specs.Stands as reader
-use Rattle.sx_esis.specs.declared.reader.LineReader.{LineReader}
-use Rattle.sx_esis.specs.declared.reader.LineFault.{LineFault}
-use Rattle.sx_names.specs.Numbering.{KeepsPlaces}
-use Rattle.sx_names.proofs.Places.{local_at-place}
-use Rattle.sx_tree.specs.Events.{ends_in_text as text_is_last}
-use Rattle.sx_tree.specs.Tree as tree
-use Rattle.sx_tree.specs.Tree.{Happening, has_open}
-use Rattle.sx_events.specs.Form.{happenings, document_of, fits, all_fit, fitting}
-use Rattle.sx_events.specs.Nested.{Nested}
-use Rattle.sx_events.specs.Pending.{text_waits, ends_in_held_text, Pends}
-use Rattle.sx_events.specs.Reader.{Took, Along, TookAll, Broke}
-use Rattle.sx_events.specs.declared.nesting.Nesting.{Nesting}
+use Rattle.sx_esis.specs.Lines.{Line}
+use Rattle.sx_tree.specs.Named.{Begun, named, IsKnown}
+use Rattle.sx_tree.specs.Tree.{Happening}
+use Rattle.sx_tree.specs.declared.events.Event.{Event}
+use Rattle.sx_events.specs.Course.{Lined, run_in, run_of, then_here}
+use Rattle.sx_events.specs.Place.{Place, fault_of, is_root_closed, is_of_element, needs_root, may_follow_attributes}
+use Rattle.sx_events.specs.Pending.{held, held_in, IsKnownIn, AreKnown, one_of}
+use Rattle.sx_events.specs.Standing.{Holds, AreWaiting, IsSmall, Knows, Flushed, TakesHere, Takes, fault_here, place_fault, is_run, count}
+use Rattle.sx_events.specs.declared.faults.Which.{Which}
+use Rattle.sx_events.specs.declared.faults.Which.TheVariants as which
+use Rattle.sx_events.specs.declared.limits.Limits.{Limits}
 use Rattle.sx_events.specs.declared.pending.Pending.{Pending}
-use Rattle.sx_events.specs.declared.pending.Tag.{Tag}
-use Rattle.sx_events.specs.declared.pending.Tag.TheVariants as tag
-use Rattle.sx_events.proofs.Courses.{all_fit-append, fitting-all, fitting-append}
-use Rattle.sx_events.proofs.Nestings.{happenings-snoc, nested_text}
-use Rattle.sx_events.proofs.Pendings.{pends_kept, pends_text, pends_tag}
-use Rattle.sx_events.proofs.Stages.{text-snoc}
+use Rattle.sx_events.specs.declared.pending.Waiting.{Waiting}
+use Rattle.sx_events.specs.declared.run.Run.{Run}
+use Rattle.sx_events.specs.declared.standing.Standing.{Standing}
 
--- behind a tag no text waits
-tag_last : (p : Pending) (t : Tag) → p.tag ≡ Some t → ends_in_held_text p ≡ false
-tag_last p t now = ap (λ (o : Option Tag). text_waits o p.text) now
+-- All but the run of text is what is known at this place.
+pub record KnowsRest (s : Standing) (p : Place) : Type 0 where
+  pub opened : Holds s.elements p.opened
+  pub scope : s.elements.scope ≡ p.scope
+  pub has_root : s.has_root ≡ p.has_root
+  pub conformed : s.conformed ≡ p.conformed
+  pub wait : AreWaiting s.attributes p.attributes
+  pub is_loose : s.attributes.is_loose ≡ p.is_loose
+  pub strict : p.is_loose ≡ false → p.attributes ≡ []
 
-no_text : (text : Option (List ℕ)) → text_waits None text ≡ false → text ≡ None
-no_text None h = refl
-no_text (Some s) h = absurd (false≢true (sym h))
+-- the run of text has ended
+pub knows_flushed : (old new : Standing) (w : Option Waiting) (q : Place) → Flushed old new w → KnowsRest old q → q.text ≡ [] → q.text_line ≡ 0 → Knows new q
+knows_flushed old new w q flushed rest text line =
+    subst (λ (s : Standing). Knows s q) (sym flushed.rest) (record {
+      opened = rest.opened;
+      scope = rest.scope;
+      has_root = rest.has_root;
+      conformed = rest.conformed;
+      wait = rest.wait;
+      is_loose = rest.is_loose;
+      strict = rest.strict;
+      text = flushed.text ∙ sym text;
+      text_line = flushed.line ∙ sym line;
+    })
 
-pub no_tag : (o : Option Tag) → is_some o ≡ false → o ≡ None
-no_tag None h = refl
-no_tag (Some t) h = absurd (false≢true (sym h))
+module _ (names : List (List ℕ × List ℕ)) (old mid new : Standing) (after : Pending) (p : Place) (knows : Knows old p) (same : mid.run ≡ old.run) (flushed : Flushed mid new after.text) where
+  run_waits : (held_in names after.text ≡ run_of p) × IsKnownIn names after.text
+  run_waits =
+      let waits = flushed.waits names in (
+        waits.0 ∙ ap₂ run_in (ap (λ (r : Run). r.text) same ∙ knows.text) (ap (λ (r : Run). r.line) same ∙ knows.text_line),
+        waits.1,
+      )
 
--- a start was taken
-pub took_start : (n n' : Nesting) (p p' : Pending) (names names' : List (List ℕ × List ℕ)) (ls : List Line) (name : List ℕ) (number given : ℕ) →
-    KeepsPlaces names names' → slice_get names' number ≡ Some ([], name) → p.tag ≡ None → p'.text ≡ p.text → p'.tag ≡ Some (tag.Start number) →
-    Nested n' names' (ls ++ starts name ∷ []) → Took n p names ls given → Took n' p' names' (ls ++ starts name ∷ []) given
-took_start n n' p p' names names' ls name number given kept at none text now nested took = record {
-  nested = nested;
-  pends =
-      subst (λ (hs : List (Happening (List ℕ))). Pends p' names' hs given) (sym (happenings-snoc ls (starts name)))
-      (pends_tag p p' names' (happenings ls) (tree.starts name) (tag.Start number) given (ap (λ (x : List ℕ). tree.starts x ∷ []) (local_at-place names' number [] name at)) (name, at) none text now
-      (pends_kept p names names' (happenings ls) given kept took.pends));
-  last = text-snoc ls (starts name) (tree.starts name) refl ∙ sym (tag_last p' (tag.Start number) now);
-}
+  -- the run of text waits
+  pub flush_waits : after.event ≡ None → (held names after ≡ run_of p) × AreKnown names after
+  flush_waits none = (
+    ap₂ (λ (x : List Lined) (o : Option Waiting). x ++ held_in names o) run_waits.0 none ∙ append-nil (run_of p),
+    record { text = run_waits.1; event = subst (IsKnownIn names) (sym none) tt },
+  )
 
--- an end was taken
-pub took_end : (n n' : Nesting) (p p' : Pending) (names : List (List ℕ × List ℕ)) (ls : List Line) (name : List ℕ) (given : ℕ) →
-    p.tag ≡ None → p'.text ≡ p.text → p'.tag ≡ Some tag.End →
-    Nested n' names (ls ++ ends name ∷ []) → Took n p names ls given → Took n' p' names (ls ++ ends name ∷ []) given
-took_end n n' p p' names ls name given none text now nested took = record {
-  nested = nested;
-  pends =
-      subst (λ (hs : List (Happening (List ℕ))). Pends p' names hs given) (sym (happenings-snoc ls (ends name)))
-      (pends_tag p p' names (happenings ls) tree.ends tag.End given refl tt none text now took.pends);
-  last = text-snoc ls (ends name) tree.ends refl ∙ sym (tag_last p' tag.End now);
-}
+  -- and behind it this event
+  pub put_waits : (e : Event) (number : ℕ) (h : Happening Begun) → after.event ≡ Some (record { event = e; line = number }) → number ≡ suc p.lines → named names e ≡ h → IsKnown names e →
+      (held names after ≡ then_here p h) × AreKnown names after
+  put_waits e number h is line what known = (
+    ap₂ (λ (x : List Lined) (o : Option Waiting). x ++ held_in names o) run_waits.0 is
+        ∙ ap₂ (λ (g : Happening Begun) (n : ℕ). run_of p ++ record { what = g; line = n } ∷ []) what line,
+    record { text = run_waits.1; event = subst (IsKnownIn names) (sym is) known },
+  )
 
--- a text was taken
-pub took_text : (n : Nesting) (p p' : Pending) (names : List (List ℕ × List ℕ)) (ls : List Line) (s : List ℕ) (given : ℕ) →
-    ends_in_held_text p ≡ false → p.tag ≡ None → p'.text ≡ Some s → p'.tag ≡ p.tag → Took n p names ls given → Took n p' names (ls ++ says s ∷ []) given
-took_text n p p' names ls s given apart none now same took =
-    let text : p.text ≡ None = no_text p.text (ap (λ (o : Option Tag). text_waits o p.text) (sym none) ∙ apart) in
-    let tag_now : p'.tag ≡ None = same ∙ none in
-    record {
-      nested = nested_text n names ls s took.nested;
-      pends =
-          subst (λ (hs : List (Happening (List ℕ))). Pends p' names hs given) (sym (happenings-snoc ls (says s)))
-          (pends_text p p' names (happenings ls) s given text none now tag_now took.pends);
-      last = text-snoc ls (says s) (tree.says s) refl ∙ sym (ap₂ (λ (o : Option Tag) (x : Option (List ℕ)). text_waits o x) tag_now now);
-    }
+-- ---- how much waits
 
--- that the document conformed was taken
-pub took_conforms : (n n' : Nesting) (p : Pending) (names : List (List ℕ × List ℕ)) (ls : List Line) (given : ℕ) →
-    Nested n' names (ls ++ conforms ∷ []) → Took n p names ls given → Took n' p names (ls ++ conforms ∷ []) given
-took_conforms n n' p names ls given nested took =
-    let same : happenings (ls ++ conforms ∷ []) ≡ happenings ls = happenings-snoc ls conforms ∙ append-nil (happenings ls) in
-    record {
-      nested = nested;
-      pends = subst (λ (hs : List (Happening (List ℕ))). Pends p names hs given) (sym same) took.pends;
-      last = ap (λ (hs : List (Happening (List ℕ))). text_is_last hs) same ∙ took.last;
-    }
+one_run : (w : Option Waiting) (names : List (List ℕ × List ℕ)) (text : List ℕ) (line : ℕ) → held_in names w ≡ run_in text line → one_of w ≡ is_run text
+one_run None names [] line h = refl
+one_run None names (b ∷ bs) line h = absurd (cc)
+one_run (Some w) names [] line h = absurd (cc)
+one_run (Some w) names (b ∷ bs) line h = refl
 
--- where no element is open, or a text came last, no text fits
-pub text_misfits : (n : Nesting) (p : Pending) (names : List (List ℕ × List ℕ)) (ls : List Line) (s : List ℕ) (given : ℕ) (is_open after : Bool) →
-    is_open ≡ has_open (document_of ls).content → after ≡ ends_in_held_text p → Took n p names ls given → (is_open && not after) ≡ fits 200 ls (says s)
-text_misfits n p names ls s given is_open after o a took = ap₂ (λ (x y : Bool). x && not y) o (a ∙ sym took.last)
+pub flushed_count : (old new : Standing) (w : Option Waiting) → Flushed old new w → (one_of w ≡ is_run old.run.text) × (is_run new.run.text ≡ 0)
+flushed_count old new w flushed = (one_run w [] old.run.text old.run.line (flushed.waits []).0, ap is_run flushed.text)
 
--- the item behind others begins the rest
-at_split : (xs ys : List Line) (x : Line) → slice_get (xs ++ ys) (length xs) ≡ Some x → (zs : List Line) × (ys ≡ x ∷ zs)
-at_split [] [] x h = absurd (cc)
-at_split [] (y ∷ ys) x h =
-    let same : y ≡ x = cc in
-    (ys, ap (λ (z : Line). z ∷ ys) same)
-at_split (y ∷ xs) ys x h = at_split xs ys x h
+-- no more waits than one event more
+pub put_count : (old new : Standing) (before after : Pending) (e : Waiting) → Flushed old new after.text → after.event ≡ Some e → count new.run after ≤ count old.run before + 1
+put_count old new before after e flushed is =
+    let counted = flushed_count old new after.text flushed in
+    let one : one_of after.event ≡ 1 = ap one_of is in
+    let text = counted.0 in
+    let none = counted.1 in
+    omega (arith, one, text, none)
 
-module _ (r : LineReader) (n : Nesting) (p : Pending) (names : List (List ℕ × List ℕ)) (b : List ℕ) (ended : Bool) (given : ℕ) (a : Along r n p names b ended given) where
-  next_is : (x : Line) → slice_get (lines_of 1048576 b ended).lines (length a.front) ≡ Some x → (zs : List Line) × (a.more ≡ x ∷ zs)
-  next_is x is = at_split a.front a.more x (ap (λ (ls : List Line). slice_get ls (length a.front)) (sym a.lines) ∙ is)
+-- ---- the faults of a line
 
-  -- a line was taken
-  pub took_line : (r' : LineReader) (n' : Nesting) (p' : Pending) (names' : List (List ℕ × List ℕ)) (x : Line) →
-      slice_get (lines_of 1048576 b ended).lines (length a.front) ≡ Some x → reader.Stands r' 1048576 b ended (length a.front + 1) → fits 200 a.front x ≡ true →
-      Took n' p' names' (a.front ++ x ∷ []) given → Along r' n' p' names' b ended given
-  took_line r' n' p' names' x is stands fit took =
-      let rest = next_is x is in
-      record {
-        front = a.front ++ x ∷ [];
-        more = rest.0;
-        lines = a.lines ∙ ap (λ (ls : List Line). a.front ++ ls) rest.1 ∙ sym (append_assoc a.front (x ∷ []) rest.0);
-        reads = subst (λ (k : ℕ). reader.Stands r' 1048576 b ended k) (sym (length-append a.front (x ∷ []))) stands;
-        fit = all_fit-append 200 [] a.front (x ∷ []) ∙ ap₂ (λ (u v : Bool). u && v) a.fit (ap (λ (v : Bool). cond v true false) fit);
-        took = took;
-      }
+pub place_first : (limits : Limits) (p : Place) (l : Line) (w : Which) → place_fault p l ≡ Some w → fault_of limits p l ≡ Some w
+place_first limits p l w h = by (p.conformed || (is_root_closed p && is_of_element l)) (not p.has_root && needs_root l) (p.is_loose && not (may_follow_attributes l)) h
+  where
+    by : (a b c : Bool) → cond a (Some which.AfterRoot) (cond b (Some which.NoRoot) (cond c (Some which.LooseAttr) None)) ≡ Some w →
+        cond a (Some which.AfterRoot) (cond b (Some which.NoRoot) (cond c (Some which.LooseAttr) (fault_here limits p l))) ≡ Some w
+    by true b c e = e
+    by false true c e = e
+    by false false true e = e
+    by false false false e = absurd (cc)
 
-  -- no more lines have come
-  all_taken : length a.front ≡ length (lines_of 1048576 b ended).lines → a.front ≡ (lines_of 1048576 b ended).lines
-  all_taken count =
-      let lines = a.lines in
-      let longer : length (lines_of 1048576 b ended).lines ≡ length a.front + length a.more = ap (λ (ls : List Line). length ls) lines ∙ length-append a.front a.more in
-      let nothing : a.more ≡ [] = nil_from_length a.more (omega (arith, longer, count)) in
-      sym (append-nil a.front) ∙ ap (λ (ls : List Line). a.front ++ ls) (sym nothing) ∙ sym lines
+pub fault_behind : (limits : Limits) (p : Place) (l : Line) → place_fault p l ≡ None → fault_of limits p l ≡ fault_here limits p l
+fault_behind limits p l h = by (p.conformed || (is_root_closed p && is_of_element l)) (not p.has_root && needs_root l) (p.is_loose && not (may_follow_attributes l)) h
+  where
+    by : (a b c : Bool) → cond a (Some which.AfterRoot) (cond b (Some which.NoRoot) (cond c (Some which.LooseAttr) None)) ≡ None →
+        cond a (Some which.AfterRoot) (cond b (Some which.NoRoot) (cond c (Some which.LooseAttr) (fault_here limits p l))) ≡ fault_here limits p l
+    by true b c e = absurd (cc)
+    by false true c e = absurd (cc)
+    by false false true e = absurd (cc)
+    by false false false e = refl
 
-  pub took_all : (r' : LineReader) → GaveAll (lines_of 1048576 b ended) (length a.front) → reader.Stands r' 1048576 b ended (length a.front) → TookAll r' n p names b ended given
-  took_all r' all stands =
-      let whole = all_taken all.all in
-      record {
-        sound = all.sound;
-        reads = subst (λ (k : ℕ). reader.Stands r' 1048576 b ended k) all.all stands;
-        fit = ap (all_fit 200 []) (sym whole) ∙ a.fit;
-        took = subst (λ (ls : List Line). Took n p names ls given) whole a.took;
-      }
+loose_fault : (a b l m : Bool) → cond a (Some which.AfterRoot) (cond b (Some which.NoRoot) (cond (l && m) (Some which.LooseAttr) None)) ≡ None → m ≡ true → l ≡ false
+loose_fault true b l m h e = absurd (cc)
+loose_fault false true l m h e = absurd (cc)
+loose_fault false false true m h e = absurd (by m e h)
+  where
+    by : (v : Bool) → v ≡ true → cond v (Some which.LooseAttr) None ≡ None → ⊥
+    by true e h = cc
+    by false e h = false≢true e
+loose_fault false false false m h e = refl
 
-  -- a line is at fault
-  pub took_fault : (f : LineFault) → GivesFault (lines_of 1048576 b ended) b (length a.front) f → Broke p names b ended given
-  took_fault f fault =
-      let whole = all_taken fault.all in
-      let fit : all_fit 200 [] (lines_of 1048576 b ended).lines ≡ true = ap (all_fit 200 []) (sym whole) ∙ a.fit in
-      let some = fault.fault in
-      record {
-        cause = inl (λ none. cc);
-        pends = subst (λ (ls : List Line). Pends p names (happenings ls) given) (whole ∙ sym (fitting-all 200 [] (lines_of 1048576 b ended).lines fit)) a.took.pends;
-      }
+-- behind attribute lines stands no line of such a kind
+pub not_loose : (p : Place) (l : Line) → place_fault p l ≡ None → not (may_follow_attributes l) ≡ true → p.is_loose ≡ false
+not_loose p l h e = loose_fault (p.conformed || (is_root_closed p && is_of_element l)) (not p.has_root && needs_root l) p.is_loose (not (may_follow_attributes l)) h e
 
-  -- a line does not fit
-  pub took_misfit : (p' : Pending) (names' : List (List ℕ × List ℕ)) (x : Line) → slice_get (lines_of 1048576 b ended).lines (length a.front) ≡ Some x → fits 200 a.front x ≡ false →
-      p' ≡ p → KeepsPlaces names names' → Broke p' names' b ended given
-  took_misfit p' names' x is misfit same kept =
-      let rest = next_is x is in
-      let lines = a.lines ∙ ap (λ (ls : List Line). a.front ++ ls) rest.1 in
-      let bad : all_fit 200 a.front (x ∷ rest.0) ≡ false = ap (λ (v : Bool). cond v (all_fit 200 (a.front ++ x ∷ []) rest.0) false) misfit in
-      let stops : fitting 200 a.front (x ∷ rest.0) ≡ a.front = ap (λ (v : Bool). cond v (fitting 200 (a.front ++ x ∷ []) rest.0) a.front) misfit in
-      record {
-        cause = inr (ap (all_fit 200 []) lines ∙ all_fit-append 200 [] a.front (x ∷ rest.0) ∙ ap₂ (λ (u v : Bool). u && v) a.fit bad);
-        pends =
-            subst (λ (q : Pending). Pends q names' (happenings (fitting 200 [] (lines_of 1048576 b ended).lines)) given) (sym same)
-            (subst (λ (ls : List Line). Pends p names' (happenings ls) given) (sym (ap (fitting 200 []) lines ∙ fitting-append 200 [] a.front (x ∷ rest.0) a.fit ∙ stops))
-            (pends_kept p names names' (happenings a.front) given kept a.took.pends));
-      }
+pub no_fault : (v : Bool) (w : Which) → v ≡ false → cond v (Some w) None ≡ None
+no_fault true w h = absurd (false≢true (sym h))
+no_fault false w h = refl
+
+module _ (limits : Limits) (line : Line) (number : ℕ) (names : List (List ℕ × List ℕ)) (old new : Standing) (before after : Pending)
+    (may : (p : Place) → Knows old p → place_fault p line ≡ None) where
+  -- a line that may stand there was taken
+  pub takes_it : (fault : Option Which) → TakesHere limits line number names old new before after fault → Takes limits line number names old new before after fault
+  takes_it None takes = λ p knows is idle.
+      let here = may p knows in
+      let took = takes p knows here is idle in
+      (fault_behind limits p line here ∙ took.0, took.1)
+  takes_it (Some w) takes = ((λ p knows. fault_behind limits p line (may p knows) ∙ takes.0 p knows), takes.1, takes.2)
+
+  pub takes_if : {E : Type 0} (done : Result (Option Which) E) → IfOk done (λ fault. TakesHere limits line number names old new before after fault) →
+      IfOk done (λ fault. IsSmall limits → Takes limits line number names old new before after fault)
+  takes_if (Ok fault) takes = λ small. takes_it fault takes
+  takes_if (Err e) takes = tt

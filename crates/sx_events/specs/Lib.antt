@@ -1,5 +1,9 @@
-pub mod Documents
-pub mod Form
-pub mod Nested
+pub mod Faults
+pub mod Limits
+pub mod Place
+pub mod Course
 pub mod Pending
+pub mod Standing
+pub mod Starting
 pub mod Reader
+pub mod Laws

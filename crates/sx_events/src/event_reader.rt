@@ -1,69 +1,85 @@
 // The reader of events: bytes of a document in, its events out.
-ghost use Rattle.std.specs.Prelude.{◌≡◌, ◌^◌, ◌<◌, ◌≤◌, ◌+◌, [], ◌++◌, List, ℕ, Bool, true, false, not, nat_lt, IsTrue, IfOk, OnOk, OnErr, IsErr, None, length};
-ghost use Rattle.sx_esis.specs.Stands.{unread};
+ghost use Rattle.std.specs.Prelude.{◌≡◌, ◌^◌, ◌<◌, ◌≤◌, ◌+◌, ◌-◌, [], ◌++◌, List, ℕ, Bool, true, false, min, nat_lt, take, IsTrue, IfOk, OnOk, OnErr, IsErr, None, length};
 ghost use Rattle.sx_names.specs.Numbering.{IsDistinct, KeepsPlaces};
-ghost use Rattle.sx_events.specs.Pending.{IsPlain, count_held};
-ghost use Rattle.sx_events.specs.Reader.{TookAll, Counted, Stands, Rests, Gives, IfEvent, HasLeft, within, ends_within, left, is_spent};
+ghost use Rattle.sx_events.specs.Course.{is_beyond, line_behind, looked_at, events_of};
+ghost use Rattle.sx_events.specs.Reader.{TookAll, Broke, EndsWell, Counted, Stands, Rests, Gives, IfEvent, left, is_spent};
+ghost use Rattle.sx_events.specs.Pending.{IsIdle};
+ghost use Rattle.sx_events.specs.Standing.{count};
 
-use crate::nesting::Nesting;
+use crate::faults::{DocFault, Which};
+use crate::limits::Limits;
 use crate::pending::Pending;
+use crate::standing::Standing;
 use crate::taking::{Taken, take_lines};
 use std::alloc::{AllocError, Global};
 use sx_esis::LineReader;
 use sx_names::Names;
 use sx_tree::Event;
 
-/// The most bytes of a line without its newline.
-const LINE_LIMIT: u64 = 1_048_576;
-
-/// The most bytes of a document.
-const DOCUMENT_LIMIT: u64 = 1 << 40;
-
-/// The document has not the form that is read today, or is broken off.
-#[derive(Clone, Copy, Debug, PartialEq, Eq)]
-pub struct DocFault;
-
 /// How the bytes end.
 #[doc(hidden)]
 #[derive(Clone, Copy)]
 pub enum Ending {
     /// they are broken off
-    Broken,
-    /// they are a whole document, whose close was not given
+    Broken(DocFault),
+    /// they have ended well
     Whole,
-    /// they are a whole document, whose close was given
-    Closed,
 }
 
-/// Reads the events of a document from bytes that come in pieces of any lengths. A start has the number of its element's
-/// name in the caller's table of names, and no prefix, attributes or namespace declarations.
+/// Reads the events of a document from bytes that come in pieces of any lengths. The names of elements and attributes have
+/// the numbers of the caller's table of names.
 ///
-/// It keeps the bytes that wait, the names of the open elements, and at most one text and one tag. After an `AllocError`
+/// It keeps the bytes of the line that has begun, the names of the open elements and the namespaces that they declare, the
+/// attribute lines that wait for their start, the run of text that may go on, and at most two events. After an `AllocError`
 /// of `next` it is spent, and answers that error from then on.
 #[derive(Drop)]
 pub struct EventReader {
+    limits: Limits,
     lines: LineReader,
-    nesting: Nesting,
+    standing: Standing,
     pending: Pending,
     total: u64,
     ended: bool,
     ending: Option<Ending>,
+    line: u64,
     spent: bool,
+}
+
+// How many of the next bytes are looked at, behind so many: those within the limit, and the one that passes it where it
+// ends no line.
+fn count_looked_at(limit: u64, total: u64, piece: &[u8]) -> usize
+    ensures within { result ≤ length piece.now }
+    ensures is { (limits : Limits) (b : List ℕ) → limits.bytes ≡ limit → limit ≤ 2 ^ 61 → total ≡ min (length b) (2 ^ 64 - 1)
+        → looked_at limits (b ++ piece.now) ≡ looked_at limits b ++ take result piece.now }
+{
+    if total > limit {
+        return 0;
+    }
+    let room = (limit - total) as usize;
+    match piece.get(room) {
+        None => piece.len(),
+        Some(b'\n') => room,
+        Some(_) => room + 1,
+    }
 }
 
 impl EventReader {
     /// A reader that was fed nothing.
-    pub fn new(alloc: Global) -> EventReader
-        ensures stands { (names : List (List ℕ × List ℕ)) → Stands result names [] false 0 }
+    pub fn new(alloc: Global, limits: &Limits) -> EventReader
+        requires depth { limits.now.depth ≤ 200 }
+        requires bytes { limits.now.bytes ≤ 2 ^ 61 }
+        ensures stands { (names : List (List ℕ × List ℕ)) → Stands result limits.now names [] false 0 }
         ensures unspent { is_spent result ≡ false }
     {
         EventReader {
-            lines: LineReader::new(alloc, LINE_LIMIT),
-            nesting: Nesting::new(alloc),
-            pending: Pending::new(alloc),
+            limits: *limits,
+            lines: LineReader::new(alloc, limits.line),
+            standing: Standing::new(alloc),
+            pending: Pending::new(),
             total: 0,
             ended: false,
             ending: None,
+            line: 0,
             spent: false,
         }
     }
@@ -71,8 +87,8 @@ impl EventReader {
     /// Takes the next bytes. Behind the limit of a document, and where the bytes were broken off, they are dropped. After
     /// an `AllocError` the reader stands as before.
     pub fn feed(&mut self, piece: &[u8]) -> Result<(), AllocError>
-        ensures fed { OnOk result ((names : List (List ℕ × List ℕ)) (b : List ℕ) (given : ℕ) → Stands self.old names b false given → Stands self.new names (b ++ piece.now) false given) }
-        ensures err { OnErr result ((names : List (List ℕ × List ℕ)) (b : List ℕ) (ended : Bool) (given : ℕ) → Stands self.old names b ended given → Stands self.new names b ended given) }
+        ensures fed { OnOk result ((limits : Limits) (names : List (List ℕ × List ℕ)) (b : List ℕ) (given : ℕ) → Stands self.old limits names b false given → Stands self.new limits names (b ++ piece.now) false given) }
+        ensures err { OnErr result ((limits : Limits) (names : List (List ℕ × List ℕ)) (b : List ℕ) (ended : Bool) (given : ℕ) → Stands self.old limits names b ended given → Stands self.new limits names b ended given) }
         ensures same { is_spent self.new ≡ is_spent self.old }
         ensures spent { IsTrue (is_spent self.old) → IsErr result }
     {
@@ -82,16 +98,16 @@ impl EventReader {
         if self.ending.is_some() {
             return Ok(());
         }
-        let room = DOCUMENT_LIMIT.saturating_sub(self.total) as usize;
-        let (within, _) = piece.split_at(piece.len().min(room));
-        self.lines.feed(within)?;
+        let count = count_looked_at(self.limits.bytes, self.total, piece);
+        let (front, _) = piece.split_at(count);
+        self.lines.feed(front)?;
         self.total = self.total.saturating_add(piece.len() as u64);
         Ok(())
     }
 
     /// Says that there are no more bytes.
     pub fn finish(&mut self) -> Result<(), AllocError>
-        ensures told { OnOk result ((names : List (List ℕ × List ℕ)) (b : List ℕ) (given : ℕ) → Stands self.old names b false given → Stands self.new names b true given) }
+        ensures told { OnOk result ((limits : Limits) (names : List (List ℕ × List ℕ)) (b : List ℕ) (given : ℕ) → Stands self.old limits names b false given → Stands self.new limits names b true given) }
         ensures err { OnErr result (self.new ≡ self.old) }
         ensures same { is_spent self.new ≡ is_spent self.old }
         ensures spent { IsTrue (is_spent self.old) → IsErr result }
@@ -107,11 +123,18 @@ impl EventReader {
         Ok(())
     }
 
+    /// The number of the line of the last event that was given, counted from 1, and 0 before the first: of a run of text
+    /// its last text line, of the close the number of lines.
+    pub fn line(&self) -> u64
+        ensures { (limits : Limits) (names : List (List ℕ × List ℕ)) (b : List ℕ) (ended : Bool) (given : ℕ) → Stands self.now limits names b ended given → result ≡ line_behind (events_of limits b ended) given }
+    {
+        self.line
+    }
+
     /// The next event of the bytes that were fed. `None` says that there are no more so far, and behind the close that
-    /// there are none; `DocFault` that the bytes are broken off, and it stays the answer.
+    /// there are none; `DocFault` where the bytes are broken off, and it stays the answer.
     pub fn next(&mut self, names: &mut Names) -> Result<Option<Result<Event, DocFault>>, AllocError>
-        ensures gives { IfOk result (λ answer. (b : List ℕ) (ended : Bool) (given : ℕ) → Stands self.old names.old b ended given → Gives names.new b ended given self.new answer) }
-        ensures plain { IfOk result (λ answer. IfEvent answer IsPlain) }
+        ensures gives { IfOk result (λ answer. (limits : Limits) (b : List ℕ) (ended : Bool) (given : ℕ) → Stands self.old limits names.old b ended given → Gives limits names.new b ended given self.new answer) }
         ensures progress { IfOk result (λ answer. IfEvent answer (λ _. left self.new < left self.old)) }
         ensures kept { KeepsPlaces names.old names.new }
         ensures distinct { IsDistinct names.old → IsDistinct names.new }
@@ -133,15 +156,15 @@ impl EventReader {
 
     // Whether the bytes have passed the limit of a document.
     fn is_beyond(&self) -> bool
-        ensures { (b : List ℕ) (ended : Bool) → Counted self.now b ended → result ≡ nat_lt (2 ^ 40) (length b) }
+        ensures { (limits : Limits) (b : List ℕ) (ended : Bool) → limits.bytes ≤ 2 ^ 61 → Counted self.now limits b ended → result ≡ is_beyond limits b }
     {
-        self.total > DOCUMENT_LIMIT
+        self.total > self.limits.bytes
     }
 
-    // Takes lines until an event is due or none can be.
+    // Takes lines until an event waits or none can.
     fn read_on(&mut self, names: &mut Names) -> Result<(), AllocError>
-        ensures rests { OnOk result ((b : List ℕ) (ended : Bool) (given : ℕ) → Stands self.old names.old b ended given → Rests self.new names.new b ended given) }
-        ensures fewer { OnOk result (HasLeft self.new (left self.old)) }
+        ensures rests { OnOk result ((limits : Limits) (b : List ℕ) (ended : Bool) (given : ℕ) → Stands self.old limits names.old b ended given → Rests self.new limits names.new b ended given) }
+        ensures no_more { OnOk result (¬ IsIdle self.new.pending → left self.new ≤ left self.old) }
         ensures kept { KeepsPlaces names.old names.new }
         ensures distinct { IsDistinct names.old → IsDistinct names.new }
         ensures same { is_spent self.new ≡ is_spent self.old }
@@ -149,67 +172,84 @@ impl EventReader {
         if self.ending.is_some() {
             return Ok(());
         }
-        match take_lines(&mut self.lines, &mut self.nesting, &mut self.pending, names)? {
+        match take_lines(
+            &mut self.lines,
+            &mut self.standing,
+            &mut self.pending,
+            &self.limits,
+            names,
+        )? {
             Taken::Line => {}
             Taken::All => self.settle(),
-            Taken::Broken => self.ending = Some(Ending::Broken),
+            Taken::Broken(fault) => self.break_off(fault),
         }
         Ok(())
     }
 
     // All lines that have come were taken: decides how the bytes end, where they do.
     fn settle(&mut self)
-        ensures rests { (names : List (List ℕ × List ℕ)) (b : List ℕ) (ended : Bool) (given : ℕ) → self.old.ending ≡ None → Counted self.old b ended
-            → TookAll self.old.lines self.old.nesting self.old.pending names (within b) (ends_within b ended) given → Rests self.new names b ended given }
-        ensures pending { self.new.pending ≡ self.old.pending }
+        ensures rests { (limits : Limits) (names : List (List ℕ × List ℕ)) (b : List ℕ) (ended : Bool) (given : ℕ) → self.old.ending ≡ None → IsIdle self.old.pending → Counted self.old limits b ended
+            → TookAll self.old.lines self.old.standing self.old.pending limits names b ended given self.old.line → Rests self.new limits names b ended given }
+        ensures no_more { self.old.ending ≡ None → IsIdle self.old.pending → ¬ IsIdle self.new.pending → left self.new ≤ count self.old.standing.run self.old.pending + 1 }
         ensures same { is_spent self.new ≡ is_spent self.old }
-        ensures fewer { (most : ℕ) → self.old.ending ≡ None → self.old.pending.tag ≡ None → count_held self.old.pending ≤ most → HasLeft self.new (most + 1) }
     {
+        let line = self.lines.line();
         if self.is_beyond() {
-            self.ending = Some(Ending::Broken);
-            return;
+            return self.break_off(DocFault {
+                which: Which::Bytes,
+                line: line.saturating_add(1),
+            });
         }
         if !self.ended {
             return;
         }
-        if self.nesting.is_whole() {
-            self.ending = Some(Ending::Whole);
-            return;
+        match self.standing.end_fault() {
+            Some(which) => self.break_off(DocFault {
+                which,
+                line: line.saturating_add(1),
+            }),
+            None => self.close(line),
         }
-        self.ending = Some(Ending::Broken);
     }
 
-    // Gives the first event that waits, if it is due.
-    fn give(&mut self) -> Option<Result<Event, DocFault>>
-        ensures gives { (names : List (List ℕ × List ℕ)) (b : List ℕ) (ended : Bool) (given : ℕ) → Rests self.old names b ended given → Gives names b ended given self.new result }
-        ensures plain { IfEvent result IsPlain }
-        ensures fewer { IfEvent result (λ _. (most : ℕ) → HasLeft self.old most → left self.new < most) }
+    // The bytes are broken off: behind the run of text nothing happens.
+    fn break_off(&mut self, fault: DocFault)
+        ensures rests { (limits : Limits) (names : List (List ℕ × List ℕ)) (b : List ℕ) (ended : Bool) (given : ℕ) → Broke self.old.standing self.old.pending limits names b ended given self.old.line fault
+            → Rests self.new limits names b ended given }
+        ensures no_more { left self.new ≤ count self.old.standing.run self.old.pending }
         ensures same { is_spent self.new ≡ is_spent self.old }
     {
-        if !self.pending.is_due() && self.ending.is_none() {
-            return None;
-        }
-        match self.pending.take_first() {
-            Some(event) => Some(Ok(event)),
-            None => self.conclude(),
-        }
+        self.standing.flush(&mut self.pending);
+        self.ending = Some(Ending::Broken(fault));
     }
 
-    // Gives what comes behind all events that waited.
-    fn conclude(&mut self) -> Option<Result<Event, DocFault>>
-        ensures gives { (names : List (List ℕ × List ℕ)) (b : List ℕ) (ended : Bool) (given : ℕ) → self.old.pending.text ≡ None → self.old.pending.tag ≡ None → Rests self.old names b ended given → Gives names b ended given self.new result }
-        ensures plain { IfEvent result IsPlain }
+    // The bytes have ended well, with this line.
+    fn close(&mut self, line: u64)
+        ensures rests { (limits : Limits) (names : List (List ℕ × List ℕ)) (b : List ℕ) (ended : Bool) (given : ℕ) → EndsWell self.old.standing self.old.pending limits names b ended given self.old.line line
+            → Rests self.new limits names b ended given }
+        ensures no_more { left self.new ≤ count self.old.standing.run self.old.pending + 1 }
+        ensures same { is_spent self.new ≡ is_spent self.old }
+    {
+        self.standing.put(Event::Close, line, &mut self.pending);
+        self.ending = Some(Ending::Whole);
+    }
+
+    // Gives the event that waits longest.
+    fn give(&mut self) -> Option<Result<Event, DocFault>>
+        ensures gives { (limits : Limits) (names : List (List ℕ × List ℕ)) (b : List ℕ) (ended : Bool) (given : ℕ) → Rests self.old limits names b ended given → Gives limits names b ended given self.new result }
+        ensures waits { IfEvent result (λ _. ¬ IsIdle self.old.pending) }
         ensures fewer { IfEvent result (λ _. left self.new < left self.old) }
         ensures same { is_spent self.new ≡ is_spent self.old }
     {
-        match self.ending {
-            None => None,
-            Some(Ending::Closed) => None,
-            Some(Ending::Broken) => Some(Err(DocFault)),
-            Some(Ending::Whole) => {
-                self.ending = Some(Ending::Closed);
-                Some(Ok(Event::Close))
+        match self.pending.take_first() {
+            Some(waiting) => {
+                self.line = waiting.line;
+                Some(Ok(waiting.event))
             }
+            None => match self.ending {
+                Some(Ending::Broken(fault)) => Some(Err(fault)),
+                _ => None,
+            },
         }
     }
 }

@@ -1,16 +1,28 @@
-// What the definitions come to, in the words of documents.
-ghost use Rattle.std.specs.Prelude.{◌≡◌, ◌↔◌, ◌≤◌, ℕ, true, List, []};
-ghost use Rattle.sx_esis.specs.Lines.{Line};
-ghost use Rattle.sx_events.specs.Documents.{IsDocument, BeginsDocument};
-ghost use Rattle.sx_events.specs.Form.{all_fit, document_of, is_whole};
+// What the definitions come to.
+ghost use Rattle.std.specs.Prelude.{◌≡◌, ◌≢◌, ◌<◌, ℕ, Bool, true, false, List, [], length, Some, None};
+ghost use Rattle.sx_tree.specs.Tree.{has_open};
+ghost use Rattle.sx_events.specs.Course.{break_of, events_of, whats};
+ghost use Rattle.sx_events.specs.Laws.{AllFollow, Grows, StaysBroken, tree};
+ghost use Rattle.sx_events.specs.declared.faults.DocFault.{DocFault};
+ghost use Rattle.sx_events.specs.declared.limits.Limits.{Limits};
 
-/// Lines fit, one behind the other, exactly where they begin the lines of a document. The root counts as an open
-/// element, so there is no document where none may be open.
-pub fn form()
-    ensures { (depth : ℕ) → 1 ≤ depth → (p : List Line) → (all_fit depth [] p ≡ true) ↔ BeginsDocument depth p }
+/// More bytes only add events, and where bytes are broken off more bytes change nothing.
+pub fn growth()
+    ensures grows { (limits : Limits) (b d : List ℕ) (ended : Bool) → Grows limits b d ended }
+    ensures broken { (limits : Limits) (b d : List ℕ) (ended : Bool) (fault : DocFault) → break_of limits b false ≡ Some fault → StaysBroken limits b d ended fault }
 {}
 
-/// The document of lines that fit is whole exactly where they are all the lines of a document.
-pub fn whole()
-    ensures { (depth : ℕ) → 1 ≤ depth → (p : List Line) → all_fit depth [] p ≡ true → (is_whole (document_of p) ≡ true) ↔ IsDocument depth p }
+/// Each event may happen behind those before it.
+pub fn follow()
+    ensures { (limits : Limits) (b : List ℕ) (ended : Bool) → AllFollow [] (whats (events_of limits b ended)) }
+{}
+
+/// The tree of the events is closed where the bytes have ended and are not broken off, and else it is open. More bytes
+/// than the limit are broken off.
+pub fn ending()
+    ensures closed { (limits : Limits) (b : List ℕ) → break_of limits b true ≡ None → (tree limits b true).is_open ≡ false }
+    ensures ended { (limits : Limits) (b : List ℕ) → break_of limits b true ≡ None → has_open (tree limits b true).content ≡ false }
+    ensures going { (limits : Limits) (b : List ℕ) → (tree limits b false).is_open ≡ true }
+    ensures broken { (limits : Limits) (b : List ℕ) (ended : Bool) → break_of limits b ended ≢ None → (tree limits b ended).is_open ≡ true }
+    ensures bytes { (limits : Limits) (b : List ℕ) (ended : Bool) → limits.bytes < length b → break_of limits b ended ≢ None }
 {}

@@ -1,9 +1,15 @@
-//! The form of a document: which lines may stand behind which, and the reader of the events that its bytes make.
+//! The events of a document, read from its bytes, or what is at fault with it.
 #![tactic(auto)]
 
+mod attributes;
+mod elements;
 mod event_reader;
-mod nesting;
+mod faults;
+mod limits;
 mod pending;
+mod run;
+mod standing;
+mod starting;
 mod taking;
 #[cfg(test)]
 mod tests;
@@ -11,10 +17,19 @@ mod tests;
 /// Laws over the definitions, each the contract of a function that does nothing.
 pub mod laws;
 
-pub use event_reader::{DocFault, EventReader};
-pub use nesting::Nesting;
+pub use event_reader::EventReader;
+pub use faults::{DocFault, Which};
+pub use limits::Limits;
 // A contract of another crate can speak of a reader only if the types of its fields are exported.
+#[doc(hidden)]
+pub use attributes::{Attributes, Written};
+#[doc(hidden)]
+pub use elements::Elements;
 #[doc(hidden)]
 pub use event_reader::Ending;
 #[doc(hidden)]
-pub use pending::{Pending, Tag};
+pub use pending::{Pending, Waiting};
+#[doc(hidden)]
+pub use run::Run;
+#[doc(hidden)]
+pub use standing::Standing;

@@ -1,154 +1,101 @@
-// Taking the lines that have come, each as the event that it makes.
-ghost use Rattle.std.specs.Prelude.{◌≡◌, ◌+◌, ◌≤◌, ◌<◌, ◌∷◌, ◌++◌, [], List, ℕ, Bool, IsTrue, IsFalse, IfOk, None};
-ghost use Rattle.sx_esis.specs.Gives.{view_line};
-ghost use Rattle.sx_esis.specs.Lines.{Line, starts, ends, says};
+// Taking the lines that have come.
+ghost use Rattle.std.specs.Prelude.{◌≡◌, ◌+◌, ◌≤◌, ◌<◌, List, ℕ, Bool, IfOk};
 ghost use Rattle.sx_esis.specs.Stands.{unread};
 ghost use Rattle.sx_names.specs.Numbering.{IsDistinct, KeepsPlaces};
-ghost use Rattle.sx_events.specs.Form.{fits};
-ghost use Rattle.sx_events.specs.Pending.{count_held};
-ghost use Rattle.sx_events.specs.Reader.{Took, Along, AfterTaking, IsNoMore, IsTagAfter};
+ghost use Rattle.sx_events.specs.Course.{which_of};
+ghost use Rattle.sx_events.specs.Pending.{IsIdle};
+ghost use Rattle.sx_events.specs.Standing.{count};
+ghost use Rattle.sx_events.specs.Reader.{Along, AfterTaking, IsNoMore};
 ghost use Rattle.sx_events.specs.declared.taking.Taken.TheVariants as taken;
 
-use crate::nesting::Nesting;
-use crate::pending::{Pending, Tag};
+use crate::faults::{DocFault, Which};
+use crate::limits::Limits;
+use crate::pending::Pending;
+use crate::standing::Standing;
 use std::alloc::AllocError;
-use sx_esis::{LineReader, LineView};
+use sx_esis::{LineReader, LineView, LineWhich};
 use sx_names::Names;
 
 /// What was taken.
 #[derive(Clone, Copy)]
 pub(crate) enum Taken {
-    /// a line that fits
+    /// a line
     Line,
     /// all lines that have come
     All,
-    /// all lines up to one that is at fault or does not fit
-    Broken,
+    /// all lines in front of one that is at fault
+    Broken(DocFault),
 }
 
-// Takes a start, if it fits.
-fn take_start(
-    nesting: &mut Nesting,
-    pending: &mut Pending,
-    names: &mut Names,
-    name: &str,
-) -> Result<bool, AllocError>
-    ensures is { IfOk result (λ fit. (p : List Line) (given : ℕ) → Took nesting.old pending.old names.old p given → fit ≡ fits 200 p (starts name.now)) }
-    ensures next { IfOk result (λ fit. IsTrue fit → (p : List Line) (given : ℕ) → pending.old.tag ≡ None → Took nesting.old pending.old names.old p given → Took nesting.new pending.new names.new (p ++ starts name.now ∷ []) given) }
-    ensures misfit { IfOk result (λ fit. IsFalse fit → pending.new ≡ pending.old) }
-    ensures one { count_held pending.new ≤ count_held pending.old + 1 }
-    ensures kept { KeepsPlaces names.old names.new }
-    ensures distinct { IsDistinct names.old → IsDistinct names.new }
+// The fault of a line, as one of the document.
+fn which_of(which: LineWhich) -> Which
+    ensures { result ≡ which_of which }
 {
-    match nesting.start(names, name)? {
-        None => Ok(false),
-        Some(number) => {
-            pending.hold_tag(Tag::Start(number));
-            Ok(true)
-        }
-    }
-}
-
-// Takes an end, if it fits.
-fn take_end(nesting: &mut Nesting, pending: &mut Pending, names: &Names, name: &str) -> bool
-    ensures is { (p : List Line) (given : ℕ) → Took nesting.old pending.old names.now p given → result ≡ fits 200 p (ends name.now) }
-    ensures next { IsTrue result → (p : List Line) (given : ℕ) → pending.old.tag ≡ None → Took nesting.old pending.old names.now p given → Took nesting.new pending.new names.now (p ++ ends name.now ∷ []) given }
-    ensures misfit { IsFalse result → pending.new ≡ pending.old }
-    ensures one { count_held pending.new ≤ count_held pending.old + 1 }
-{
-    if !nesting.end(names, name) {
-        return false;
-    }
-    pending.hold_tag(Tag::End);
-    true
-}
-
-// Takes a text, if it fits.
-fn take_text(nesting: &Nesting, pending: &mut Pending, text: &str) -> Result<bool, AllocError>
-    ensures is { (names : List (List ℕ × List ℕ)) → IfOk result (λ fit. (p : List Line) (given : ℕ) → Took nesting.now pending.old names p given → fit ≡ fits 200 p (says text.now)) }
-    ensures next { (names : List (List ℕ × List ℕ)) → IfOk result (λ fit. IsTrue fit → (p : List Line) (given : ℕ) → pending.old.tag ≡ None → Took nesting.now pending.old names p given → Took nesting.now pending.new names (p ++ says text.now ∷ []) given) }
-    ensures misfit { IfOk result (λ fit. IsFalse fit → pending.new ≡ pending.old) }
-    ensures one { count_held pending.new ≤ count_held pending.old + 1 }
-{
-    if !nesting.has_open() {
-        return Ok(false);
-    }
-    if pending.ends_in_text() {
-        return Ok(false);
-    }
-    pending.hold_text(text)?;
-    Ok(true)
-}
-
-// Takes a line, if it fits.
-fn take_line(
-    nesting: &mut Nesting,
-    pending: &mut Pending,
-    names: &mut Names,
-    line: LineView<'_>,
-) -> Result<bool, AllocError>
-    ensures is { IfOk result (λ fit. (p : List Line) (given : ℕ) → Took nesting.old pending.old names.old p given → fit ≡ fits 200 p (view_line line.entry)) }
-    ensures next { IfOk result (λ fit. IsTrue fit → (p : List Line) (given : ℕ) → pending.old.tag ≡ None → Took nesting.old pending.old names.old p given → Took nesting.new pending.new names.new (p ++ view_line line.entry ∷ []) given) }
-    ensures misfit { IfOk result (λ fit. IsFalse fit → pending.new ≡ pending.old) }
-    ensures one { count_held pending.new ≤ count_held pending.old + 1 }
-    ensures kept { KeepsPlaces names.old names.new }
-    ensures distinct { IsDistinct names.old → IsDistinct names.new }
-{
-    match line {
-        LineView::Start(name) => take_start(nesting, pending, names, name),
-        LineView::End(name) => Ok(take_end(nesting, pending, names, name)),
-        LineView::Text(text) => take_text(nesting, pending, text),
-        LineView::Conforming => Ok(nesting.conform()),
+    match which {
+        LineWhich::NotUtf8 => Which::NotUtf8,
+        LineWhich::BadEscape => Which::BadEscape,
+        LineWhich::BadCommand => Which::BadCommand,
+        LineWhich::BadAttr => Which::BadAttr,
+        LineWhich::Sdata => Which::Sdata,
+        LineWhich::Unsupported => Which::Unsupported,
+        LineWhich::Line => Which::Line,
     }
 }
 
 // Takes the next line that has come.
 fn take_next(
     lines: &mut LineReader,
-    nesting: &mut Nesting,
+    standing: &mut Standing,
     pending: &mut Pending,
+    limits: &Limits,
     names: &mut Names,
 ) -> Result<Taken, AllocError>
-    ensures after { IfOk result (λ done. (b : List ℕ) (ended : Bool) (given : ℕ) → pending.old.tag ≡ None → Along lines.old nesting.old pending.old names.old b ended given
-        → AfterTaking lines.new nesting.new pending.new names.new b ended given done) }
+    ensures after { IfOk result (λ done. (b : List ℕ) (ended : Bool) (given line : ℕ) → IsIdle pending.old → Along lines.old standing.old pending.old limits.now names.old b ended given line
+        → AfterTaking lines.new standing.new pending.new limits.now names.new b ended given line done) }
     ensures fewer { IfOk result (λ done. done ≡ taken.Line → unread lines.new < unread lines.old) }
     ensures same { IfOk result (λ done. done ≡ taken.All → pending.new ≡ pending.old) }
-    ensures none_more { IfOk result (λ done. IsNoMore done (unread lines.old + count_held pending.old) (unread lines.new) (count_held pending.new)) }
+    ensures no_more { IfOk result (λ done. IsNoMore done (unread lines.old + count standing.old.run pending.old) (unread lines.new) (count standing.new.run pending.new)) }
     ensures kept { KeepsPlaces names.old names.new }
     ensures distinct { IsDistinct names.old → IsDistinct names.new }
 {
+    let number = lines.line().saturating_add(1);
     match lines.next() {
         None => Ok(Taken::All),
-        Some(Err(_)) => Ok(Taken::Broken),
-        Some(Ok(line)) => {
-            if take_line(nesting, pending, names, line)? {
-                Ok(Taken::Line)
-            } else {
-                Ok(Taken::Broken)
-            }
-        }
+        Some(Err(fault)) => Ok(Taken::Broken(DocFault {
+            which: which_of(fault.which),
+            line: fault.line,
+        })),
+        Some(Ok(line)) => match standing.take(limits, names, line, number, pending)? {
+            None => Ok(Taken::Line),
+            Some(which) => Ok(Taken::Broken(DocFault {
+                which,
+                line: number,
+            })),
+        },
     }
 }
 
-/// Takes lines until a tag waits, or no more have come, or one is at fault or does not fit.
+/// Takes lines until an event waits, or no more have come, or one is at fault.
 pub(crate) fn take_lines(
     lines: &mut LineReader,
-    nesting: &mut Nesting,
+    standing: &mut Standing,
     pending: &mut Pending,
+    limits: &Limits,
     names: &mut Names,
 ) -> Result<Taken, AllocError>
-    ensures after { IfOk result (λ done. (b : List ℕ) (ended : Bool) (given : ℕ) → Along lines.old nesting.old pending.old names.old b ended given
-        → AfterTaking lines.new nesting.new pending.new names.new b ended given done) }
-    ensures due { IfOk result (λ done. IsTagAfter done pending.new.tag) }
-    ensures none_more { IfOk result (λ done. IsNoMore done (unread lines.old + count_held pending.old) (unread lines.new) (count_held pending.new)) }
+    ensures after { IfOk result (λ done. (b : List ℕ) (ended : Bool) (given line : ℕ) → Along lines.old standing.old pending.old limits.now names.old b ended given line
+        → AfterTaking lines.new standing.new pending.new limits.now names.new b ended given line done) }
+    ensures waits { IfOk result (λ done. done ≡ taken.Line → ¬ IsIdle pending.new) }
+    ensures idle { IfOk result (λ done. done ≡ taken.All → IsIdle pending.new) }
+    ensures no_more { IfOk result (λ done. IsNoMore done (unread lines.old + count standing.old.run pending.old) (unread lines.new) (count standing.new.run pending.new)) }
     ensures kept { KeepsPlaces names.old names.new }
     ensures distinct { IsDistinct names.old → IsDistinct names.new }
 {
-    while !pending.is_due() {
-        match take_next(lines, nesting, pending, names)? {
+    while pending.is_empty() {
+        match take_next(lines, standing, pending, limits, names)? {
             Taken::Line => {}
             Taken::All => return Ok(Taken::All),
-            Taken::Broken => return Ok(Taken::Broken),
+            Taken::Broken(fault) => return Ok(Taken::Broken(fault)),
         }
     }
     Ok(Taken::Line)

@@ -7,7 +7,7 @@ use Rattle.sx_kinds.specs.declared.constructs.Instr.{Instr}
 use Rattle.sx_kinds.specs.declared.constructs.Instr.TheViews.{out-Instr}
 use Rattle.sx_kinds.specs.declared.constructs.InstrForm.{InstrForm}
 use Rattle.sx_kinds.specs.declared.constructs.InstrForm.TheVariants as form
-use Rattle.sx_machine.specs.Body.{Body, nil, literal, words, apply, body_of, in_front, instr_in_front, or_else, consumes, consuming_parts, culprit_inside, culprit_of}
+use Rattle.sx_machine.specs.Body.{Body, nil, literal, copies, words, apply, body_of, in_front, instr_in_front, or_else, consumes, consuming_parts, culprit_inside, culprit_of}
 use Rattle.sx_machine.proofs.Rules.{body-drop, in_front_is, joined_is}
 
 -- So many instructions were looked at: the first culprit in them, and how many of them consume.
@@ -31,11 +31,11 @@ at_most_one false = omega arith
 -- one instruction more
 pub judged_more : (instrs : List Instr) (n : ℕ) (i : Instr) (inside found : Option ℕ) (consuming : ℕ) (held : Bool) → JudgedSoFar instrs n inside consuming
     → n < length instrs → i ≡ get_or instrs n i
-    → ((rest : Body) → culprit_inside (instr_in_front i rest) ≡ or_else found (culprit_inside rest))
-    → ((rest : Body) → consuming_parts (instr_in_front i rest) ≡ cond held 1 0 + consuming_parts rest)
+    → ((rest : Body Label) → culprit_inside (instr_in_front i rest) ≡ or_else found (culprit_inside rest))
+    → ((rest : Body Label) → consuming_parts (instr_in_front i rest) ≡ cond held 1 0 + consuming_parts rest)
     → JudgedSoFar instrs (n + 1) (or_else inside found) (consuming + cond held 1 0)
 judged_more instrs n i inside found consuming held so h e first parts =
-    let rest : Body = body_of (drop (n + 1) instrs) in
+    let rest : Body Label = body_of (drop (n + 1) instrs) in
     let front : body_of (drop n instrs) ≡ instr_in_front i rest = body-drop instrs n i h e in
     let counted : consuming_parts (body_of (drop n instrs)) ≡ cond held 1 0 + consuming_parts rest = ap consuming_parts front ∙ parts rest in
     let one : cond held 1 0 ≤ 1 = at_most_one held in
@@ -52,9 +52,10 @@ any_beside true w n e = grind (arith, nat_tests)
 any_beside false w n e = e ∙ ap (nat_lt 0) (omega arith)
 
 -- a body consumes where a part of it does
-pub consumes_is : (b : Body) → consumes b ≡ nat_lt 0 (consuming_parts b)
+pub consumes_is : {N : Type 0} (b : Body N) → consumes b ≡ nat_lt 0 (consuming_parts b)
 consumes_is nil = refl
 consumes_is (literal line label content rest) = any_beside (consumes content) (consumes rest) (consuming_parts rest) (consumes_is rest)
+consumes_is (copies attributes rest) = consumes_is rest
 consumes_is (words s rest) = consumes_is rest
 consumes_is (apply rest) = grind (arith, nat_tests)
 
@@ -67,16 +68,16 @@ judged_consumes instrs n inside consuming so h =
     ap (nat_lt 0) all ∙ sym (consumes_is (body_of instrs))
 
 -- a literal result element in front of others
-literal_is : (i : Instr) (label : Label) → (out-Instr i).form ≡ form.Literal label → (rest : Body)
+literal_is : (i : Instr) (label : Label) → (out-Instr i).form ≡ form.Literal label → (rest : Body Label)
     → instr_in_front i rest ≡ literal (out-Instr i).construct.line label (body_of (out-Instr i).body) rest
 literal_is i label e rest =
     in_front_is i rest
     ∙ ap (λ (g : InstrForm). in_front (out-Instr i).construct.line g (map instr_in_front (out-Instr i).body) rest) e
-    ∙ ap (λ (b : Body). literal (out-Instr i).construct.line label b rest) (joined_is (out-Instr i).body)
+    ∙ ap (λ (b : Body Label). literal (out-Instr i).construct.line label b rest) (joined_is (out-Instr i).body)
 
 -- the first culprit from it on, where this is the first in its element
 pub literal_culprit : (i : Instr) (label : Label) → (out-Instr i).form ≡ form.Literal label → (content : List Instr) → content ≡ (out-Instr i).body
-    → (found : Option ℕ) → found ≡ culprit_of (out-Instr i).construct.line (body_of content) → (rest : Body)
+    → (found : Option ℕ) → found ≡ culprit_of (out-Instr i).construct.line (body_of content) → (rest : Body Label)
     → culprit_inside (instr_in_front i rest) ≡ or_else found (culprit_inside rest)
 literal_culprit i label e content same found is rest =
     ap culprit_inside (literal_is i label e rest)
@@ -84,7 +85,7 @@ literal_culprit i label e content same found is rest =
 
 -- how many parts consume from it on, where it is known whether it does
 pub literal_parts : (i : Instr) (label : Label) → (out-Instr i).form ≡ form.Literal label → (content : List Instr) → content ≡ (out-Instr i).body
-    → (held : Bool) → held ≡ consumes (body_of content) → (rest : Body)
+    → (held : Bool) → held ≡ consumes (body_of content) → (rest : Body Label)
     → consuming_parts (instr_in_front i rest) ≡ cond held 1 0 + consuming_parts rest
 literal_parts i label e content same held is rest =
     ap consuming_parts (literal_is i label e rest)

@@ -1,18 +1,18 @@
 -- What is given in turn, with its ends.
 use Rattle.std.proofs.Common.{◌≡◌, List, [], ◌++◌, refl, ap, sym, ◌∙◌, append_assoc, append-nil}
 use Rattle.sx_atoms.specs.declared.error_codes.Code.{Code}
-use Rattle.sx_build.specs.declared.raw.Raw.{Raw}
+use Rattle.sx_build.specs.Asked.{Asked}
 use Rattle.sx_machine.specs.Run.{Out, Ending, done, waits, stops, nothing, gives, behind, next}
 
 -- nothing more until something comes
 abbrev pub waiting : Out
 waiting = nothing waits
 
-abbrev pub out : List Raw → Ending → Out
+abbrev pub out : List Asked → Ending → Out
 out raws ending = record { raw = raws; ending = ending }
 
 -- what waits goes on with more
-abbrev pub resumed : List Raw → Ending → Out → Out
+abbrev pub resumed : List Asked → Ending → Out → Out
 resumed raws done d = gives raws
 resumed raws waits d = out (raws ++ d.raw) d.ending
 resumed raws (stops c) d = out raws (stops c)
@@ -38,10 +38,10 @@ SettledAt (stops c) = Unit {0}
 abbrev pub IsSettled : Out → Type 0
 IsSettled a = SettledAt a.ending
 
-with_raw : (e : Ending) (a b : List Raw) → a ≡ b → out a e ≡ out b e
-with_raw e a b p = ap (λ (r : List Raw). out r e) p
+with_raw : (e : Ending) (a b : List Asked) → a ≡ b → out a e ≡ out b e
+with_raw e a b p = ap (λ (r : List Asked). out r e) p
 
-assoc_at : (r s : List Raw) (g h : Ending) (c : Out) → next (behind r g (out s h)) c ≡ behind r g (behind s h c)
+assoc_at : (r s : List Asked) (g h : Ending) (c : Out) → next (behind r g (out s h)) c ≡ behind r g (behind s h c)
 assoc_at r s done done c = with_raw c.ending _ _ (append_assoc r s c.raw)
 assoc_at r s done waits c = refl
 assoc_at r s done (stops k) c = refl
@@ -51,7 +51,7 @@ assoc_at r s (stops k) h c = refl
 pub next-assoc : (a b c : Out) → next (next a b) c ≡ next a (next b c)
 next-assoc a b c = assoc_at a.raw b.raw a.ending b.ending c
 
-going_next_at : (r : List Raw) (g : Ending) (b : Out) → GoingAt g → behind r g b ≡ out r g
+going_next_at : (r : List Asked) (g : Ending) (b : Out) → GoingAt g → behind r g b ≡ out r g
 going_next_at r done b h = absurd h
 going_next_at r waits b h = refl
 going_next_at r (stops k) b h = refl
@@ -59,7 +59,7 @@ going_next_at r (stops k) b h = refl
 pub going-next : (a b : Out) → IsGoing a → next a b ≡ a
 going-next a b h = going_next_at a.raw a.ending b h
 
-next_going_at : (r : List Raw) (g : Ending) (b : Out) → IsGoing b → IsGoing (behind r g b)
+next_going_at : (r : List Asked) (g : Ending) (b : Out) → IsGoing b → IsGoing (behind r g b)
 next_going_at r done b h = h
 next_going_at r waits b h = tt
 next_going_at r (stops k) b h = tt
@@ -67,7 +67,7 @@ next_going_at r (stops k) b h = tt
 pub next_going : (a b : Out) → IsGoing b → IsGoing (next a b)
 next_going a b h = next_going_at a.raw a.ending b h
 
-next_settled_at : (r : List Raw) (g : Ending) (b : Out) → SettledAt g → IsSettled b → IsSettled (behind r g b)
+next_settled_at : (r : List Asked) (g : Ending) (b : Out) → SettledAt g → IsSettled b → IsSettled (behind r g b)
 next_settled_at r done b h k = k
 next_settled_at r waits b h k = absurd h
 next_settled_at r (stops c) b h k = tt
@@ -75,7 +75,7 @@ next_settled_at r (stops c) b h k = tt
 pub next_settled : (a b : Out) → IsSettled a → IsSettled b → IsSettled (next a b)
 next_settled a b h k = next_settled_at a.raw a.ending b h k
 
-resume_going_at : (r : List Raw) (g : Ending) (d : Out) → GoingAt g → IsGoing d → IsGoing (resumed r g d)
+resume_going_at : (r : List Asked) (g : Ending) (d : Out) → GoingAt g → IsGoing d → IsGoing (resumed r g d)
 resume_going_at r done d h k = absurd h
 resume_going_at r waits d h k = k
 resume_going_at r (stops c) d h k = tt
@@ -83,7 +83,7 @@ resume_going_at r (stops c) d h k = tt
 pub resume_going : (a d : Out) → IsGoing a → IsGoing d → IsGoing (resume a d)
 resume_going a d h k = resume_going_at a.raw a.ending d h k
 
-resume_behind_at : (r s : List Raw) (g h : Ending) (d : Out) → SettledAt g → behind r g (resumed s h d) ≡ resume (behind r g (out s h)) d
+resume_behind_at : (r s : List Asked) (g h : Ending) (d : Out) → SettledAt g → behind r g (resumed s h d) ≡ resume (behind r g (out s h)) d
 resume_behind_at r s done done d k = refl
 resume_behind_at r s done waits d k = with_raw d.ending _ _ (sym (append_assoc r s d.raw))
 resume_behind_at r s done (stops c) d k = refl
@@ -94,16 +94,21 @@ resume_behind_at r s (stops c) h d k = refl
 pub resume_behind : (a b d : Out) → IsSettled a → next a (resume b d) ≡ resume (next a b) d
 resume_behind a b d k = resume_behind_at a.raw b.raw a.ending b.ending d k
 
-end_here_at : (r : List Raw) (g : Ending) (t : List Raw) → GoingAt g → next (next (resumed r g (gives [])) (gives t)) waiting ≡ resumed r g (next (gives t) waiting)
+end_here_at : (r : List Asked) (g : Ending) (t : Out) → GoingAt g → next (next (resumed r g (gives [])) t) waiting ≡ resumed r g (next t waiting)
 end_here_at r done t h = absurd h
-end_here_at r waits t h = with_raw waits _ _ (ap (λ (x : List Raw). (x ++ t) ++ []) (append-nil r) ∙ append_assoc r t [])
+end_here_at r waits t h = ap (λ (x : List Asked). next (next (gives x) t) waiting) (append-nil r) ∙ behind_all r t.raw t.ending
+  where
+    behind_all : (r s : List Asked) (g : Ending) → next (next (gives r) (out s g)) waiting ≡ resumed r waits (next (out s g) waiting)
+    behind_all r s done = with_raw waits _ _ (append_assoc r s [])
+    behind_all r s waits = refl
+    behind_all r s (stops c) = refl
 end_here_at r (stops c) t h = refl
 
 -- what waited is done, and then comes t
-pub end_here : (a : Out) (t : List Raw) → IsGoing a → next (next (resume a (gives [])) (gives t)) waiting ≡ resume a (next (gives t) waiting)
+pub end_here : (a t : Out) → IsGoing a → next (next (resume a (gives [])) t) waiting ≡ resume a (next t waiting)
 end_here a t h = end_here_at a.raw a.ending t h
 
-next_nil_at : (r : List Raw) (g : Ending) → behind r g (gives []) ≡ out r g
+next_nil_at : (r : List Asked) (g : Ending) → behind r g (gives []) ≡ out r g
 next_nil_at r done = with_raw done _ _ (append-nil r)
 next_nil_at r waits = refl
 next_nil_at r (stops c) = refl
@@ -117,13 +122,13 @@ resume_waits m r e = ap (λ (g : Ending). resumed m.raw g r) e
 pub resume_stops : (m r : Out) (c : Code) → m.ending ≡ stops c → resume m r ≡ out m.raw (stops c)
 resume_stops m r c e = ap (λ (g : Ending). resumed m.raw g r) e
 
-opens_at : (r : List Raw) (g : Ending) (k : Code) → g ≡ stops k → behind r g waiting ≡ out r g
+opens_at : (r : List Asked) (g : Ending) (k : Code) → g ≡ stops k → behind r g waiting ≡ out r g
 opens_at r g k e = rw e refl
 
 pub next_stops : (f : Out) (k : Code) → f.ending ≡ stops k → next f waiting ≡ f
 next_stops f k e = opens_at f.raw f.ending k e
 
-opens_done_at : (r : List Raw) (g : Ending) → g ≡ done → behind r g waiting ≡ out r waits
+opens_done_at : (r : List Asked) (g : Ending) → g ≡ done → behind r g waiting ≡ out r waits
 opens_done_at r g e = rw e (with_raw waits _ _ (append-nil r))
 
 pub next_done : (f : Out) → f.ending ≡ done → next f waiting ≡ out f.raw waits

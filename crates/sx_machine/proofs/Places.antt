@@ -1,5 +1,5 @@
 -- The places of rules by the numbers of their names.
-use Rattle.std.proofs.Common.{◌≡◌, ◌⊎◌, inl, inr, ℕ, ◌<◌, ◌≤◌, ◌+◌, Bool, true, false, cond, List, [], ◌∷◌, ◌++◌, length, map, take, Option, Some, None, slice_get, get_or, refl, ap, ap₂, sym, ◌∙◌, arith}
+use Rattle.std.proofs.Common.{◌≡◌, ◌⊎◌, inl, inr, ℕ, ◌<◌, ◌≤◌, ◌+◌, Bool, true, false, cond, List, [], ◌∷◌, ◌++◌, length, take, Option, Some, None, slice_get, get_or, refl, ap, ap₂, sym, ◌∙◌, arith}
 use Rattle.std.proofs.lemmas.Bool.{cases_lt, ne_eqb}
 use Rattle.std.proofs.lemmas.List.{get_or_past, take_more}
 use Rattle.std.proofs.lemmas.Option.{slice_get-get_or}
@@ -9,7 +9,7 @@ use Rattle.sx_machine.specs.declared.plans.Rule.{Rule}
 use Rattle.sx_machine.specs.declared.rule_table.RuleTable.{RuleTable}
 use Rattle.sx_machine.specs.Body.{IsKnownPattern, AreKnown}
 use Rattle.sx_machine.specs.Choice.{otherwise, last_that}
-use Rattle.sx_machine.specs.Plan.{pattern_name, rule_of, after_at, after_rule}
+use Rattle.sx_machine.specs.Plan.{pattern_name, AreRulesOf}
 use Rattle.sx_machine.specs.Session.{rule_at, place_in, is_number, is_named, FindsLast}
 
 -- ---- the places of rules
@@ -52,25 +52,23 @@ not_this : (count number : ℕ) (p : Option Pattern) → IsKnownPattern count p 
 not_this count number None k h = refl
 not_this count number (Some p) k h = ne_eqb p.name number (omega arith)
 
-no_rule : (count number : ℕ) (ts : List Template) → AreKnown count ts → count ≤ number → last_that (is_named number) (map rule_of ts) ≡ None
-no_rule count number [] k h = refl
-no_rule count number (t ∷ ts) k h =
-    ap₂ (λ (o : Option Rule) (v : Bool). otherwise o (cond v (Some (rule_of t)) None)) (no_rule count number ts k.2 h) (not_this count number t.pattern k.0 h)
+no_rule : (count number : ℕ) (ts : List Template) (rs : List Rule) → AreKnown count ts → AreRulesOf ts rs → count ≤ number → last_that (is_named number) rs ≡ None
+no_rule count number [] [] k all h = refl
+no_rule count number [] (r ∷ rs) k all h = absurd all
+no_rule count number (t ∷ ts) [] k all h = absurd all
+no_rule count number (t ∷ ts) (r ∷ rs) k all h =
+    ap₂ (λ (o : Option Rule) (v : Bool). otherwise o (cond v (Some r) None)) (no_rule count number ts rs k.2 all.1 h)
+    (ap (is_number number) all.0.named ∙ not_this count number t.pattern k.0 h)
 
-find_by : (table : RuleTable) (ts : List Template) (count : ℕ) → AreKnown count ts → table.list ≡ map rule_of ts →
+find_by : (table : RuleTable) (ts : List Template) (count : ℕ) → AreKnown count ts → AreRulesOf ts table.list →
     ((n : ℕ) → n < count → rule_at table.list (place_in table.places n) ≡ last_that (is_named n) table.list) → length table.places ≤ count →
     (number : ℕ) → (number < count) ⊎ (count ≤ number) → rule_at table.list (place_in table.places number) ≡ last_that (is_named number) table.list
-find_by table ts count known is found bound number (inl h) = found number h
-find_by table ts count known is found bound number (inr h) =
+find_by table ts count known all found bound number (inl h) = found number h
+find_by table ts count known all found bound number (inr h) =
     ap (rule_at table.list) (get_or_past table.places number None (omega arith))
-    ∙ sym (no_rule count number ts known h) ∙ ap (last_that (is_named number)) (sym is)
+    ∙ sym (no_rule count number ts table.list known all h)
 
 -- where the names in templates have numbers each is found
-pub finds_last : (table : RuleTable) (ts : List Template) (count : ℕ) → AreKnown count ts → table.list ≡ map rule_of ts →
+pub finds_last : (table : RuleTable) (ts : List Template) (count : ℕ) → AreKnown count ts → AreRulesOf ts table.list →
     ((n : ℕ) → n < count → rule_at table.list (place_in table.places n) ≡ last_that (is_named n) table.list) → length table.places ≤ count → FindsLast table
-finds_last table ts count known is found bound = λ number. find_by table ts count known is found bound number (cases_lt number count)
-
--- what comes behind the children is that of the rule at the place
-pub after_found : (rules : List Rule) (place : Option ℕ) → after_at rules place ≡ after_rule (rule_at rules place)
-after_found rules None = refl
-after_found rules (Some n) = refl
+finds_last table ts count known all found bound = λ number. find_by table ts count known all found bound number (cases_lt number count)

@@ -1,19 +1,19 @@
 -- One happening more, on the open tree and in the tasks of the open elements.
-use Rattle.std.proofs.Common.{◌≡◌, ℕ, zero, suc, Bool, true, false, cond, List, [], ◌∷◌, Option, Some, None, refl, ap, sym, ◌∙◌, subst}
+use Rattle.std.proofs.Common.{◌≡◌, ℕ, zero, suc, Bool, true, false, cond, List, [], ◌∷◌, refl, ap, sym, ◌∙◌, subst}
 use Rattle.sx_tree.specs.Tree.{Happening, starts, ends, says, instructs, closes, Forest, none, text, instruction, element, has_open, begun, push_node, push_end}
-use Rattle.sx_build.specs.declared.raw.Raw.{Raw}
+use Rattle.sx_tree.specs.Named.{Name}
 use Rattle.sx_machine.specs.declared.session.Job.{Job}
 use Rattle.sx_machine.specs.declared.session.Job.TheVariants as job
 use Rattle.sx_machine.specs.Body.{Body}
 use Rattle.sx_machine.specs.Run.{Out, gives, next, invoked, applied, element_node, text_node, instruction_node}
-use Rattle.sx_machine.specs.Plan.{Task, plan_of, job_for, after_of, content, entered, first, tasks, reacts, closing, last_closing, last_job, ending_of, saying, instructing}
+use Rattle.sx_machine.specs.Plan.{Plan, still, looking, Task, plan_of, before_of, job_of, after_of, content, entered, first, tasks, reacts, closing, last_closing, last_job, ending_of, saying, instructing}
 use Rattle.sx_machine.proofs.Outs.{waiting, resume, IsGoing, IsSettled, next-assoc, going-next, next_going, next_settled, resume_going, resume_behind, end_here, next-nil}
 use Rattle.sx_machine.proofs.Bodies.{IsGood}
-use Rattle.sx_machine.proofs.Splits.{mean, split}
+use Rattle.sx_machine.proofs.Splits.{mean, split, plan_settled}
 
 -- a task with no work for the children has nothing behind them
 abbrev IsSound : Task → Type 0
-IsSound t = t.job ≡ job.Skip → t.after ≡ []
+IsSound t = t.job ≡ job.Skip → t.after ≡ gives []
 
 -- nodes after what happens in them
 abbrev pub pushed : {E : Type 0} → Forest E → Happening E → Forest E
@@ -32,124 +32,126 @@ GoesOn (instructs target c) = Unit {0}
 GoesOn closes = ⊥
 
 -- a plan, in the words of a task
-in_three : (left : ℕ) (a : List Raw) (b : Option (List Raw)) (k : Out) (c : Job → Out) → c (job.Apply left) ≡ k → c job.Skip ≡ gives [] →
-    mean (record { before = a; behind = b }) k ≡ next (gives a) (next (c (job_for left b)) (gives (after_of b)))
-in_three left a None k c e z = sym (next-nil (gives a)) ∙ ap (λ (x : Out). next (gives a) (next x (gives []))) (sym z)
-in_three left a (Some b) k c e z = ap (λ (x : Out). next (gives a) (next x (gives b))) (sym e)
+in_three : (left : ℕ) (p : Plan) (k : Out) (c : Job → Out) → c (job.Apply left) ≡ k → c job.Skip ≡ gives [] →
+    mean p k ≡ next (before_of p) (next (c (job_of left p)) (after_of p))
+in_three left (still a) k c e z = sym (next-nil a) ∙ ap (λ (x : Out). next a (next x (gives []))) (sym z)
+in_three left (looking a b) k c e z = ap (λ (x : Out). next a (next x b)) (sym e)
 
-sound_at : (left : ℕ) (b : Option (List Raw)) → job_for left b ≡ job.Skip → after_of b ≡ []
-sound_at left None e = refl
-sound_at left (Some b) e = absurd (cc)
+sound_at : (left : ℕ) (p : Plan) → job_of left p ≡ job.Skip → after_of p ≡ gives []
+sound_at left (still a) e = refl
+sound_at left (looking a b) e = absurd (cc)
 
-skips_at : (left : ℕ) (b : Option (List Raw)) (j : Job) → job_for left b ≡ j → j ≡ job.Skip → after_of b ≡ []
-skips_at left b j e z = sound_at left b (e ∙ z)
-
-module _ {E : Type 0} (chosen : E → Body) (good : (e : E) → IsGood (chosen e)) where
+module _ {E : Type 0} (is_copying : Bool) (chosen : E → Body Name) (good : (e : E) → IsGood (chosen e)) where
   -- what comes of an element behind what comes first
   abbrev tail : Task → Bool → Forest E → Out
-  tail t o kids = next (content chosen t.job o kids) (gives t.after)
+  tail t o kids = next (content is_copying chosen t.job o kids) t.after
 
   -- a template at an element, in three parts
   at_element : (left : ℕ) (e : E) (o : Bool) (kids : Forest E) →
-      invoked chosen left (element_node e o kids) ≡ next (first chosen (job.Apply left) e) (tail (entered chosen (job.Apply left) e) o kids)
+      invoked is_copying chosen left (element_node e o kids) ≡ next (first chosen (job.Apply left) e) (tail (entered chosen (job.Apply left) e) o kids)
   at_element zero e o kids = refl
   at_element (suc left) e o kids =
-      split (applied chosen left o kids) (chosen e) (good e)
-      ∙ in_three left (plan_of (chosen e)).before (plan_of (chosen e)).behind (applied chosen left o kids) (λ (j : Job). content chosen j o kids) refl refl
+      split left (applied is_copying chosen left o kids) (chosen e) (good e)
+      ∙ in_three left (plan_of left (chosen e)) (applied is_copying chosen left o kids) (λ (j : Job). content is_copying chosen j o kids) refl refl
 
   entered_sound : (j : Job) (e : E) → IsSound (entered chosen j e)
   entered_sound job.Skip e = λ _. refl
   entered_sound (job.Apply zero) e = λ _. refl
-  entered_sound (job.Apply (suc left)) e = λ z. sound_at left (plan_of (chosen e)).behind z
+  entered_sound (job.Apply (suc left)) e = λ z. sound_at left (plan_of left (chosen e)) z
 
   first_settled : (j : Job) (e : E) → IsSettled (first chosen j e)
   first_settled job.Skip e = tt
   first_settled (job.Apply zero) e = tt
-  first_settled (job.Apply (suc left)) e = tt
+  first_settled (job.Apply (suc left)) e = (plan_settled left (chosen e)).0
 
-  text_settled : (left : ℕ) (s : List ℕ) → IsSettled (invoked chosen left (text_node s))
+  after_settled : (j : Job) (e : E) → IsSettled (entered chosen j e).after
+  after_settled job.Skip e = tt
+  after_settled (job.Apply zero) e = tt
+  after_settled (job.Apply (suc left)) e = (plan_settled left (chosen e)).1
+
+  text_settled : (left : ℕ) (s : List ℕ) → IsSettled (invoked is_copying chosen left (text_node s))
   text_settled zero s = tt
   text_settled (suc left) s = tt
 
-  instruction_settled : (left : ℕ) (target c : List ℕ) → IsSettled (invoked chosen left (instruction_node target c))
+  instruction_settled : (left : ℕ) (target c : List ℕ) → IsSettled (invoked is_copying chosen left (instruction_node target c))
   instruction_settled zero target c = tt
   instruction_settled (suc left) target c = tt
 
-  element_settled : (left : ℕ) (e : E) (kids : Forest E) → IsSettled (content chosen (entered chosen (job.Apply left) e).job false kids) → IsSettled (invoked chosen left (element_node e false kids))
+  element_settled : (left : ℕ) (e : E) (kids : Forest E) → IsSettled (content is_copying chosen (entered chosen (job.Apply left) e).job false kids) → IsSettled (invoked is_copying chosen left (element_node e false kids))
   element_settled left e kids h =
       let t : Task = entered chosen (job.Apply left) e in
       subst IsSettled (sym (at_element left e false kids))
-      (next_settled (first chosen (job.Apply left) e) (tail t false kids) (first_settled (job.Apply left) e) (next_settled (content chosen t.job false kids) (gives t.after) h tt))
+      (next_settled (first chosen (job.Apply left) e) (tail t false kids) (first_settled (job.Apply left) e) (next_settled (content is_copying chosen t.job false kids) t.after h (after_settled (job.Apply left) e)))
 
-  settled_none : (j : Job) → IsSettled (content chosen j false none)
+  settled_none : (j : Job) → IsSettled (content is_copying chosen j false none)
   settled_none job.Skip = tt
   settled_none (job.Apply left) = tt
 
-  settled_text : (j : Job) (s : List ℕ) (rest : Forest E) → IsSettled (content chosen j false rest) → IsSettled (content chosen j false (text s rest))
+  settled_text : (j : Job) (s : List ℕ) (rest : Forest E) → IsSettled (content is_copying chosen j false rest) → IsSettled (content is_copying chosen j false (text s rest))
   settled_text job.Skip s rest h = tt
-  settled_text (job.Apply left) s rest h = next_settled (invoked chosen left (text_node s)) (applied chosen left false rest) (text_settled left s) h
+  settled_text (job.Apply left) s rest h = next_settled (invoked is_copying chosen left (text_node s)) (applied is_copying chosen left false rest) (text_settled left s) h
 
-  settled_instruction : (j : Job) (target c : List ℕ) (rest : Forest E) → IsSettled (content chosen j false rest) → IsSettled (content chosen j false (instruction target c rest))
+  settled_instruction : (j : Job) (target c : List ℕ) (rest : Forest E) → IsSettled (content is_copying chosen j false rest) → IsSettled (content is_copying chosen j false (instruction target c rest))
   settled_instruction job.Skip target c rest h = tt
-  settled_instruction (job.Apply left) target c rest h = next_settled (invoked chosen left (instruction_node target c)) (applied chosen left false rest) (instruction_settled left target c) h
+  settled_instruction (job.Apply left) target c rest h = next_settled (invoked is_copying chosen left (instruction_node target c)) (applied is_copying chosen left false rest) (instruction_settled left target c) h
 
-  settled_element : (j : Job) (e : E) (b : Bool) (kids rest : Forest E) → IsSettled (content chosen (entered chosen j e).job false kids) → IsSettled (content chosen j false rest) →
-      IsSettled (content chosen j false (element e b kids rest))
+  settled_element : (j : Job) (e : E) (b : Bool) (kids rest : Forest E) → IsSettled (content is_copying chosen (entered chosen j e).job false kids) → IsSettled (content is_copying chosen j false rest) →
+      IsSettled (content is_copying chosen j false (element e b kids rest))
   settled_element job.Skip e b kids rest h k = tt
-  settled_element (job.Apply left) e b kids rest h k = next_settled (invoked chosen left (element_node e false kids)) (applied chosen left false rest) (element_settled left e kids h) k
+  settled_element (job.Apply left) e b kids rest h k = next_settled (invoked is_copying chosen left (element_node e false kids)) (applied is_copying chosen left false rest) (element_settled left e kids h) k
 
   -- closed children are settled
-  pub settled : (kids : Forest E) (j : Job) → IsSettled (content chosen j false kids)
+  pub settled : (kids : Forest E) (j : Job) → IsSettled (content is_copying chosen j false kids)
   settled none j = settled_none j
   settled (text s rest) j = settled_text j s rest (settled rest j)
   settled (instruction target c rest) j = settled_instruction j target c rest (settled rest j)
   settled (element e b kids rest) j = settled_element j e b kids rest (settled kids (entered chosen j e).job) (settled rest j)
 
   -- open children are never done where templates are applied to them
-  pub going : (left : ℕ) (kids : Forest E) → IsGoing (applied chosen left true kids)
+  pub going : (left : ℕ) (kids : Forest E) → IsGoing (applied is_copying chosen left true kids)
   going left none = tt
-  going left (text s rest) = next_going (invoked chosen left (text_node s)) (applied chosen left true rest) (going left rest)
-  going left (instruction target c rest) = next_going (invoked chosen left (instruction_node target c)) (applied chosen left true rest) (going left rest)
-  going left (element e true kids rest) = next_going (invoked chosen left (element_node e true kids)) waiting tt
-  going left (element e false kids rest) = next_going (invoked chosen left (element_node e false kids)) (applied chosen left true rest) (going left rest)
+  going left (text s rest) = next_going (invoked is_copying chosen left (text_node s)) (applied is_copying chosen left true rest) (going left rest)
+  going left (instruction target c rest) = next_going (invoked is_copying chosen left (instruction_node target c)) (applied is_copying chosen left true rest) (going left rest)
+  going left (element e true kids rest) = next_going (invoked is_copying chosen left (element_node e true kids)) waiting tt
+  going left (element e false kids rest) = next_going (invoked is_copying chosen left (element_node e false kids)) (applied is_copying chosen left true rest) (going left rest)
 
   -- children that are complete, once their parent is closed
-  pub closed : (left : ℕ) (kids : Forest E) → has_open kids ≡ false → applied chosen left false kids ≡ resume (applied chosen left true kids) (gives [])
+  pub closed : (left : ℕ) (kids : Forest E) → has_open kids ≡ false → applied is_copying chosen left false kids ≡ resume (applied is_copying chosen left true kids) (gives [])
   closed left none h = refl
   closed left (text s rest) h =
-      ap (λ (x : Out). next (invoked chosen left (text_node s)) x) (closed left rest h)
-      ∙ resume_behind (invoked chosen left (text_node s)) (applied chosen left true rest) (gives []) (text_settled left s)
+      ap (λ (x : Out). next (invoked is_copying chosen left (text_node s)) x) (closed left rest h)
+      ∙ resume_behind (invoked is_copying chosen left (text_node s)) (applied is_copying chosen left true rest) (gives []) (text_settled left s)
   closed left (instruction target c rest) h =
-      ap (λ (x : Out). next (invoked chosen left (instruction_node target c)) x) (closed left rest h)
-      ∙ resume_behind (invoked chosen left (instruction_node target c)) (applied chosen left true rest) (gives []) (instruction_settled left target c)
+      ap (λ (x : Out). next (invoked is_copying chosen left (instruction_node target c)) x) (closed left rest h)
+      ∙ resume_behind (invoked is_copying chosen left (instruction_node target c)) (applied is_copying chosen left true rest) (gives []) (instruction_settled left target c)
   closed left (element e true kids rest) h = absurd (cc)
   closed left (element e false kids rest) h =
-      ap (λ (x : Out). next (invoked chosen left (element_node e false kids)) x) (closed left rest h)
-      ∙ resume_behind (invoked chosen left (element_node e false kids)) (applied chosen left true rest) (gives []) (element_settled left e kids (settled kids (entered chosen (job.Apply left) e).job))
+      ap (λ (x : Out). next (invoked is_copying chosen left (element_node e false kids)) x) (closed left rest h)
+      ∙ resume_behind (invoked is_copying chosen left (element_node e false kids)) (applied is_copying chosen left true rest) (gives []) (element_settled left e kids (settled kids (entered chosen (job.Apply left) e).job))
 
   saying_going : (j : Job) (s : List ℕ) → IsGoing (saying j s)
   saying_going job.Skip s = tt
   saying_going (job.Apply zero) s = tt
   saying_going (job.Apply (suc left)) s = tt
 
-  instructing_going : (j : Job) → IsGoing (instructing j)
-  instructing_going job.Skip = tt
-  instructing_going (job.Apply zero) = tt
-  instructing_going (job.Apply (suc left)) = tt
+  instructing_going : (j : Job) (target c : List ℕ) → IsGoing (instructing is_copying j target c)
+  instructing_going job.Skip target c = tt
+  instructing_going (job.Apply zero) target c = tt
+  instructing_going (job.Apply (suc left)) target c = tt
 
   last_closing_going : (t : Task) (ts : List Task) → IsGoing (last_closing t ts)
-  last_closing_going t [] = tt
+  last_closing_going t [] = next_going t.after waiting tt
   last_closing_going t (u ∷ ts) = last_closing_going u ts
 
   ending_going : (ts : List Task) → IsGoing (ending_of ts)
   ending_going [] = tt
   ending_going (t ∷ ts) = last_closing_going t ts
 
-  pub reacts_going : (j : Job) (ts : List Task) (h : Happening E) → GoesOn h → IsGoing (reacts chosen j ts h)
+  pub reacts_going : (j : Job) (ts : List Task) (h : Happening E) → GoesOn h → IsGoing (reacts is_copying chosen j ts h)
   reacts_going j ts (starts e) g = next_going (first chosen (last_job j ts) e) waiting tt
   reacts_going j ts ends g = ending_going ts
   reacts_going j ts (says s) g = saying_going (last_job j ts) s
-  reacts_going j ts (instructs target c) g = instructing_going (last_job j ts)
+  reacts_going j ts (instructs target c) g = instructing_going (last_job j ts) target c
   reacts_going j ts closes g = absurd g
 
   skip_stays : (kids : Forest E) → last_job job.Skip (tasks chosen job.Skip kids) ≡ job.Skip
@@ -173,87 +175,87 @@ module _ {E : Type 0} (chosen : E → Body) (good : (e : E) → IsGood (chosen e
   skip_ends (element e true kids rest) = skip_closes (entered chosen job.Skip e) kids refl
   skip_ends (element e false kids rest) = skip_ends rest
 
-  skip_quiet : (kids : Forest E) (h : Happening E) → GoesOn h → reacts chosen job.Skip (tasks chosen job.Skip kids) h ≡ waiting
+  skip_quiet : (kids : Forest E) (h : Happening E) → GoesOn h → reacts is_copying chosen job.Skip (tasks chosen job.Skip kids) h ≡ waiting
   skip_quiet kids (starts e) g = ap (λ (j : Job). next (first chosen j e) waiting) (skip_stays kids)
   skip_quiet kids ends g = skip_ends kids
   skip_quiet kids (says s) g = ap (λ (j : Job). saying j s) (skip_stays kids)
-  skip_quiet kids (instructs target c) g = ap instructing (skip_stays kids)
+  skip_quiet kids (instructs target c) g = ap (λ (j : Job). instructing is_copying j target c) (skip_stays kids)
   skip_quiet kids closes g = absurd g
 
   -- an open element
-  inside : (t : Task) → IsSound t → (kids : Forest E) → (j : Job) → t.job ≡ j → next (tail t true kids) waiting ≡ next (content chosen t.job true kids) waiting
+  inside : (t : Task) → IsSound t → (kids : Forest E) → (j : Job) → t.job ≡ j → next (tail t true kids) waiting ≡ next (content is_copying chosen t.job true kids) waiting
   inside t sound kids job.Skip e = rw (e, sound e) refl
-  inside t sound kids (job.Apply left) e = rw e (ap (λ (x : Out). next x waiting) (going-next (applied chosen left true kids) (gives t.after) (going left kids)))
+  inside t sound kids (job.Apply left) e = rw e (ap (λ (x : Out). next x waiting) (going-next (applied is_copying chosen left true kids) t.after (going left kids)))
 
   open_element : (left : ℕ) (e : E) (kids : Forest E) →
-      next (invoked chosen left (element_node e true kids)) waiting ≡ next (first chosen (job.Apply left) e) (next (content chosen (entered chosen (job.Apply left) e).job true kids) waiting)
+      next (invoked is_copying chosen left (element_node e true kids)) waiting ≡ next (first chosen (job.Apply left) e) (next (content is_copying chosen (entered chosen (job.Apply left) e).job true kids) waiting)
   open_element left e kids =
       let t : Task = entered chosen (job.Apply left) e in
       ap (λ (x : Out). next x waiting) (at_element left e true kids) ∙ next-assoc (first chosen (job.Apply left) e) (tail t true kids) waiting
       ∙ ap (λ (x : Out). next (first chosen (job.Apply left) e) x) (inside t (entered_sound (job.Apply left) e) kids t.job refl)
 
   abbrev Next : Job → Forest E → Happening E → Type 0
-  Next j f h = content chosen j true (pushed f h) ≡ resume (content chosen j true f) (reacts chosen j (tasks chosen j f) h)
+  Next j f h = content is_copying chosen j true (pushed f h) ≡ resume (content is_copying chosen j true f) (reacts is_copying chosen j (tasks chosen j f) h)
 
   deeper : (j : Job) (kids : Forest E) (h : Happening E) → GoesOn h →
-      next (resume (content chosen j true kids) (reacts chosen j (tasks chosen j kids) h)) waiting ≡ resume (next (content chosen j true kids) waiting) (reacts chosen j (tasks chosen j kids) h)
+      next (resume (content is_copying chosen j true kids) (reacts is_copying chosen j (tasks chosen j kids) h)) waiting ≡ resume (next (content is_copying chosen j true kids) waiting) (reacts is_copying chosen j (tasks chosen j kids) h)
   deeper job.Skip kids h g = ap (λ (r : Out). next (resume (gives []) r) waiting) (skip_quiet kids h g) ∙ ap (λ (r : Out). resume (next (gives []) waiting) r) (sym (skip_quiet kids h g))
   deeper (job.Apply left) kids h g =
-      let x : Out = applied chosen left true kids in
-      let r : Out = reacts chosen (job.Apply left) (tasks chosen (job.Apply left) kids) h in
+      let x : Out = applied is_copying chosen left true kids in
+      let r : Out = reacts is_copying chosen (job.Apply left) (tasks chosen (job.Apply left) kids) h in
       going-next (resume x r) waiting (resume_going x r (going left kids) (reacts_going (job.Apply left) (tasks chosen (job.Apply left) kids) h g))
       ∙ ap (λ (y : Out). resume y r) (sym (going-next x waiting (going left kids)))
 
   step_inside : (j : Job) (e : E) (kids rest after : Forest E) (h : Happening E) → GoesOn h → Next (entered chosen j e).job kids h →
-      content chosen j true (element e true (pushed kids h) after) ≡ resume (content chosen j true (element e true kids rest)) (reacts chosen (entered chosen j e).job (tasks chosen (entered chosen j e).job kids) h)
+      content is_copying chosen j true (element e true (pushed kids h) after) ≡ resume (content is_copying chosen j true (element e true kids rest)) (reacts is_copying chosen (entered chosen j e).job (tasks chosen (entered chosen j e).job kids) h)
   step_inside job.Skip e kids rest after h g k = ap (resume (gives [])) (sym (skip_quiet kids h g))
   step_inside (job.Apply left) e kids rest after h g k =
       let t : Task = entered chosen (job.Apply left) e in
       let a : Out = first chosen (job.Apply left) e in
-      let r : Out = reacts chosen t.job (tasks chosen t.job kids) h in
+      let r : Out = reacts is_copying chosen t.job (tasks chosen t.job kids) h in
       open_element left e (pushed kids h) ∙ ap (λ (x : Out). next a (next x waiting)) k
       ∙ ap (λ (x : Out). next a x) (deeper t.job kids h g)
-      ∙ resume_behind a (next (content chosen t.job true kids) waiting) r (first_settled (job.Apply left) e)
+      ∙ resume_behind a (next (content is_copying chosen t.job true kids) waiting) r (first_settled (job.Apply left) e)
       ∙ ap (λ (x : Out). resume x r) (sym (open_element left e kids))
 
   closed_tail : (t : Task) → IsSound t → (kids : Forest E) → has_open kids ≡ false → (j : Job) → t.job ≡ j →
-      next (tail t false kids) waiting ≡ resume (next (content chosen t.job true kids) waiting) (closing t)
+      next (tail t false kids) waiting ≡ resume (next (content is_copying chosen t.job true kids) waiting) (closing t)
   closed_tail t sound kids h job.Skip e = rw (e, sound e) refl
   closed_tail t sound kids h (job.Apply left) e =
-      rw (e, closed left kids h) (end_here (applied chosen left true kids) t.after (going left kids) ∙ ap (λ (x : Out). resume x (closing t)) (sym (going-next (applied chosen left true kids) waiting (going left kids))))
+      rw (e, closed left kids h) (end_here (applied is_copying chosen left true kids) t.after (going left kids) ∙ ap (λ (x : Out). resume x (closing t)) (sym (going-next (applied is_copying chosen left true kids) waiting (going left kids))))
 
   step_close : (j : Job) (e : E) (kids rest : Forest E) → has_open kids ≡ false →
-      content chosen j true (element e false kids none) ≡ resume (content chosen j true (element e true kids rest)) (closing (entered chosen j e))
+      content is_copying chosen j true (element e false kids none) ≡ resume (content is_copying chosen j true (element e true kids rest)) (closing (entered chosen j e))
   step_close job.Skip e kids rest h = refl
   step_close (job.Apply left) e kids rest h =
       let t : Task = entered chosen (job.Apply left) e in
       let a : Out = first chosen (job.Apply left) e in
       ap (λ (x : Out). next x waiting) (at_element left e false kids) ∙ next-assoc a (tail t false kids) waiting
       ∙ ap (λ (x : Out). next a x) (closed_tail t (entered_sound (job.Apply left) e) kids h t.job refl)
-      ∙ resume_behind a (next (content chosen t.job true kids) waiting) (closing t) (first_settled (job.Apply left) e)
+      ∙ resume_behind a (next (content is_copying chosen t.job true kids) waiting) (closing t) (first_settled (job.Apply left) e)
       ∙ ap (λ (x : Out). resume x (closing t)) (sym (open_element left e kids))
 
-  step_text : (j : Job) (s : List ℕ) (rest after : Forest E) (r : Out) → content chosen j true after ≡ resume (content chosen j true rest) r →
-      content chosen j true (text s after) ≡ resume (content chosen j true (text s rest)) r
+  step_text : (j : Job) (s : List ℕ) (rest after : Forest E) (r : Out) → content is_copying chosen j true after ≡ resume (content is_copying chosen j true rest) r →
+      content is_copying chosen j true (text s after) ≡ resume (content is_copying chosen j true (text s rest)) r
   step_text job.Skip s rest after r k = refl
   step_text (job.Apply left) s rest after r k =
-      ap (λ (x : Out). next (invoked chosen left (text_node s)) x) k ∙ resume_behind (invoked chosen left (text_node s)) (applied chosen left true rest) r (text_settled left s)
+      ap (λ (x : Out). next (invoked is_copying chosen left (text_node s)) x) k ∙ resume_behind (invoked is_copying chosen left (text_node s)) (applied is_copying chosen left true rest) r (text_settled left s)
 
-  step_instruction : (j : Job) (target c : List ℕ) (rest after : Forest E) (r : Out) → content chosen j true after ≡ resume (content chosen j true rest) r →
-      content chosen j true (instruction target c after) ≡ resume (content chosen j true (instruction target c rest)) r
+  step_instruction : (j : Job) (target c : List ℕ) (rest after : Forest E) (r : Out) → content is_copying chosen j true after ≡ resume (content is_copying chosen j true rest) r →
+      content is_copying chosen j true (instruction target c after) ≡ resume (content is_copying chosen j true (instruction target c rest)) r
   step_instruction job.Skip target c rest after r k = refl
   step_instruction (job.Apply left) target c rest after r k =
-      ap (λ (x : Out). next (invoked chosen left (instruction_node target c)) x) k
-      ∙ resume_behind (invoked chosen left (instruction_node target c)) (applied chosen left true rest) r (instruction_settled left target c)
+      ap (λ (x : Out). next (invoked is_copying chosen left (instruction_node target c)) x) k
+      ∙ resume_behind (invoked is_copying chosen left (instruction_node target c)) (applied is_copying chosen left true rest) r (instruction_settled left target c)
 
-  step_behind : (j : Job) (e : E) (kids rest after : Forest E) (r : Out) → content chosen j true after ≡ resume (content chosen j true rest) r →
-      content chosen j true (element e false kids after) ≡ resume (content chosen j true (element e false kids rest)) r
+  step_behind : (j : Job) (e : E) (kids rest after : Forest E) (r : Out) → content is_copying chosen j true after ≡ resume (content is_copying chosen j true rest) r →
+      content is_copying chosen j true (element e false kids after) ≡ resume (content is_copying chosen j true (element e false kids rest)) r
   step_behind job.Skip e kids rest after r k = refl
   step_behind (job.Apply left) e kids rest after r k =
-      ap (λ (x : Out). next (invoked chosen left (element_node e false kids)) x) k
-      ∙ resume_behind (invoked chosen left (element_node e false kids)) (applied chosen left true rest) r (element_settled left e kids (settled kids (entered chosen (job.Apply left) e).job))
+      ap (λ (x : Out). next (invoked is_copying chosen left (element_node e false kids)) x) k
+      ∙ resume_behind (invoked is_copying chosen left (element_node e false kids)) (applied is_copying chosen left true rest) r (element_settled left e kids (settled kids (entered chosen (job.Apply left) e).job))
 
-  fresh : (j : Job) → next (content chosen j true none) waiting ≡ waiting
+  fresh : (j : Job) → next (content is_copying chosen j true none) waiting ≡ waiting
   fresh job.Skip = refl
   fresh (job.Apply left) = refl
 
@@ -297,14 +299,14 @@ module _ {E : Type 0} (chosen : E → Body) (good : (e : E) → IsGood (chosen e
   closes_deeper i t (element e false kids rest) h = closes_deeper i t rest h
 
   step_end : (b : Bool) (j : Job) (e : E) (kids rest : Forest E) → has_open kids ≡ b → Next (entered chosen j e).job kids ends →
-      content chosen j true (cond b (element e true (push_end kids) none) (element e false kids none)) ≡
-      resume (content chosen j true (element e true kids rest)) (reacts chosen j (entered chosen j e ∷ tasks chosen (entered chosen j e).job kids) ends)
+      content is_copying chosen j true (cond b (element e true (push_end kids) none) (element e false kids none)) ≡
+      resume (content is_copying chosen j true (element e true kids rest)) (reacts is_copying chosen j (entered chosen j e ∷ tasks chosen (entered chosen j e).job kids) ends)
   step_end true j e kids rest p k =
       step_inside j e kids rest none ends tt k
-      ∙ ap (λ (r : Out). resume (content chosen j true (element e true kids rest)) r) (sym (closes_deeper (entered chosen j e).job (entered chosen j e) kids p))
+      ∙ ap (λ (r : Out). resume (content is_copying chosen j true (element e true kids rest)) r) (sym (closes_deeper (entered chosen j e).job (entered chosen j e) kids p))
   step_end false j e kids rest p k =
       step_close j e kids rest p
-      ∙ ap (λ (ts : List Task). resume (content chosen j true (element e true kids rest)) (reacts chosen j (entered chosen j e ∷ ts) ends)) (sym (no_tasks (entered chosen j e).job kids p))
+      ∙ ap (λ (ts : List Task). resume (content is_copying chosen j true (element e true kids rest)) (reacts is_copying chosen j (entered chosen j e ∷ ts) ends)) (sym (no_tasks (entered chosen j e).job kids p))
 
   -- one happening more
   pub step : (f : Forest E) (j : Job) (h : Happening E) → GoesOn h → Next j f h

@@ -5,6 +5,7 @@ use Rattle.sx_machine.specs.declared.plans.Rule.{Rule}
 use Rattle.sx_machine.specs.declared.session.Frame.{Frame}
 use Rattle.sx_machine.specs.declared.session.Job.{Job}
 use Rattle.sx_machine.specs.Body.{Body}
+use Rattle.sx_tree.specs.Named.{Name}
 use Rattle.sx_machine.specs.Plan.{Task, entered, tasks, closing, last_closing, last_job, ending_of, task_of}
 
 -- all but the last
@@ -36,7 +37,7 @@ pub ending-snoc : (ts : List Task) (u : Task) → ending_of (ts ++ u ∷ []) ≡
 ending-snoc [] u = refl
 ending-snoc (t ∷ ts) u = last_closing-snoc t u ts
 
-module _ {E : Type 0} (chosen : E → Body) where
+module _ {E : Type 0} (chosen : E → Body Name) where
   pub tasks_start : (f : Forest E) (j : Job) (e : E) → tasks chosen j (push_node f (begun (starts e))) ≡ tasks chosen j f ++ entered chosen (last_job j (tasks chosen j f)) e ∷ []
   tasks_start none j e = refl
   tasks_start (text s rest) j e = tasks_start rest j e
@@ -91,13 +92,13 @@ module _ {E : Type 0} (chosen : E → Body) where
   pub tasks_end_none : (f : Forest E) (j : Job) → tasks chosen j f ≡ [] → tasks chosen j (push_end f) ≡ []
   tasks_end_none f j e = ends_at f j ∙ ap all_but_last e
 
-last_at : (rules : List Rule) (j : Job) (f d : Frame) (fs : List Frame) → (get_or (f ∷ fs) (length fs) d).job ≡ last_job j (map (task_of rules) (f ∷ fs))
-last_at rules j f d [] = refl
-last_at rules j f d (g ∷ fs) = last_at rules f.job g d fs
+last_at : (names : List (List ℕ × List ℕ)) (rules : List Rule) (j : Job) (f d : Frame) (fs : List Frame) → (get_or (f ∷ fs) (length fs) d).job ≡ last_job j (map (task_of names rules) (f ∷ fs))
+last_at names rules j f d [] = refl
+last_at names rules j f d (g ∷ fs) = last_at names rules f.job g d fs
 
 -- the job of the last frame
-pub last_job-last : (rules : List Rule) (j : Job) (fs : List Frame) (x : Frame) → 0 < length fs → x ≡ get_or fs (length fs - 1) x → x.job ≡ last_job j (map (task_of rules) fs)
-last_job-last rules j [] x h e = absurd (omega arith)
-last_job-last rules j (f ∷ fs) x h e =
+pub last_job-last : (names : List (List ℕ × List ℕ)) (rules : List Rule) (j : Job) (fs : List Frame) (x : Frame) → 0 < length fs → x ≡ get_or fs (length fs - 1) x → x.job ≡ last_job j (map (task_of names rules) fs)
+last_job-last names rules j [] x h e = absurd (omega arith)
+last_job-last names rules j (f ∷ fs) x h e =
     let k : length (f ∷ fs) - 1 ≡ length fs = omega arith in
-    ap (λ (g : Frame). g.job) (e ∙ ap (λ (i : ℕ). get_or (f ∷ fs) i x) k) ∙ last_at rules j f x fs
+    ap (λ (g : Frame). g.job) (e ∙ ap (λ (i : ℕ). get_or (f ∷ fs) i x) k) ∙ last_at names rules j f x fs

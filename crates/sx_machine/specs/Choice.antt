@@ -1,9 +1,9 @@
--- Which template is chosen for an element (XSLT 3.0, 6.4 and 6.5).
-use Rattle.std.specs.Prelude.{ℕ, Bool, true, false, ◌&&◌, nat_eq, bytes_eq, List, [], ◌∷◌, Option, Some, None, slice_get, if◌then◌else◌}
-use Rattle.sx_tree.specs.Events.{Element}
+-- Which template is chosen for an element, or else what the built-in one does (XSLT 3.0, 6.4, 6.5 and 6.7).
+use Rattle.std.specs.Prelude.{ℕ, Bool, true, false, ◌&&◌, bytes_eq, List, [], ◌∷◌, Option, Some, None, slice_get, if◌then◌else◌}
+use Rattle.sx_tree.specs.Named.{Name, Begun}
 use Rattle.sx_kinds.specs.declared.constructs.Pattern.{Pattern}
 use Rattle.sx_kinds.specs.declared.sheets.Template.{Template}
-use Rattle.sx_machine.specs.Body.{Body, nil, apply, body_of}
+use Rattle.sx_machine.specs.Body.{Body, nil, literal, copies, apply, body_of, written_out}
 
 module _ {X : Type 0} where
   -- this, or another where it is none
@@ -16,38 +16,32 @@ module _ {X : Type 0} where
   last_that test [] = None
   last_that test (x ∷ xs) = otherwise (last_that test xs) (if test x then Some x else None)
 
+-- an entry of a table of names has the namespace and the local name of this name
+abbrev pub is_name : Name → Option (List ℕ × List ℕ) → Bool
+is_name name None = false
+is_name name (Some entry) = bytes_eq entry.0 name.uri && bytes_eq entry.1 name.local
+
 -- the name of a pattern passes a test; no pattern matches nothing
 abbrev pub pattern_passes : (ℕ → Bool) → Option Pattern → Bool
 pattern_passes test None = false
 pattern_passes test (Some p) = test p.name
 
--- the body of the chosen template, or of the built-in one for an element, which applies templates to the children
-abbrev pub body_or_built_in : Option Template → Body
-body_or_built_in None = apply nil
-body_or_built_in (Some t) = body_of t.body
+-- the templates that match an element of this name: those whose pattern has its namespace and local name, by this table of names
+abbrev pub matches : List (List ℕ × List ℕ) → Name → Template → Bool
+matches names name t = pattern_passes (λ n. is_name name (slice_get names n)) t.pattern
 
--- the body for an element whose name's number passes a test: all priorities are equal, so the last that matches is chosen
-abbrev pub chosen_by : (ℕ → Bool) → List Template → Body
-chosen_by test templates = body_or_built_in (last_that (λ t. pattern_passes test t.pattern) templates)
+-- the content of the built-in template: it applies templates to the children; shallow copy does that in a copy of the
+-- element, behind its attributes
+abbrev pub built_in : Bool → Begun → Body Name
+built_in false e = apply nil
+built_in true e = literal 0 e.name (copies e.attributes (apply nil)) nil
 
--- the body for the elements with this number of a name
-abbrev pub chosen_for_number : List Template → ℕ → Body
-chosen_for_number templates number = chosen_by (λ n. nat_eq n number) templates
+-- the body of the chosen template, or of the built-in one
+abbrev pub body_or : List (List ℕ × List ℕ) → Body Name → Option Template → Body Name
+body_or names built_in None = built_in
+body_or names built_in (Some t) = written_out names (body_of t.body)
 
--- the body for an element
-abbrev pub chosen_for : List Template → Element → Body
-chosen_for templates e = chosen_for_number templates e.label.number
-
--- no bytes
-abbrev pub is_empty : List ℕ → Bool
-is_empty [] = true
-is_empty (b ∷ bs) = false
-
--- the name of a number is this local name in no namespace
-abbrev pub is_local : List ℕ → Option (List ℕ × List ℕ) → Bool
-is_local local None = false
-is_local local (Some name) = is_empty name.0 && bytes_eq name.1 local
-
--- the body for the elements of this local name in no namespace, where names have these numbers
-abbrev pub chosen_for_name : List (List ℕ × List ℕ) → List Template → List ℕ → Body
-chosen_for_name names templates local = chosen_by (λ n. is_local local (slice_get names n)) templates
+-- The body for an element, where nodes that no template matches are or are not copied: all priorities are equal, so the last
+-- template that matches is chosen.
+abbrev pub chosen_for : List (List ℕ × List ℕ) → Bool → List Template → Begun → Body Name
+chosen_for names is_copying templates e = body_or names (built_in is_copying e) (last_that (matches names e.name) templates)

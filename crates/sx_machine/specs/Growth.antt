@@ -1,8 +1,8 @@
 -- More of a document only adds to what was given.
 use Rattle.std.specs.Prelude.{◌≡◌, true, false, List, [], ◌∷◌, ◌++◌}
 use Rattle.sx_tree.specs.Tree.{Document, Happening, starts, ends, says, instructs, closes, has_open, tree_of}
-use Rattle.sx_build.specs.declared.raw.Raw.{Raw}
-use Rattle.sx_machine.specs.Run.{Out, Ending, done, waits, stops}
+use Rattle.sx_lines.specs.declared.events.Built.{Built}
+use Rattle.sx_machine.specs.Run.{Result, Ending, done, waits, stops}
 
 module _ {E : Type 0} where
   -- it is not the close, or no element is open
@@ -23,12 +23,12 @@ module _ {E : Type 0} where
   MayAllCome p [] = Unit {0}
   MayAllCome p (h ∷ hs) = MayCome p h × MayAllCome (p ++ h ∷ []) hs
 
--- what may become of what was given, by where it ends
-abbrev pub GrownFrom : Ending → Out → Out → Type 0
+-- what may become of a result, by where it ends
+abbrev pub GrownFrom : Ending → Result → Result → Type 0
 GrownFrom done old new = new ≡ old
-GrownFrom waits old new = (more : List Raw) × (new.raw ≡ old.raw ++ more)
+GrownFrom waits old new = (more : List Built) × (new.built ≡ old.built ++ more)
 GrownFrom (stops c) old new = new ≡ old
 
--- what was given stays, and an end other than a wait is final
-abbrev pub IsGrown : Out → Out → Type 0
+-- what was built stays, and an end other than a wait is final
+abbrev pub IsGrown : Result → Result → Type 0
 IsGrown old new = GrownFrom old.ending old new

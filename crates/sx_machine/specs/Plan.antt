@@ -1,97 +1,130 @@
 -- How a body is run while the children come: what it gives before them, whether it asks for them, and what it gives behind.
-use Rattle.std.specs.Prelude.{ℕ, zero, suc, Bool, true, false, List, [], ◌∷◌, ◌++◌, Option, Some, None, slice_get}
+use Rattle.std.specs.Prelude.{◌≡◌, ℕ, zero, suc, Bool, true, false, List, [], ◌∷◌, Option, Some, None, slice_get}
+use Rattle.sx_tree.specs.declared.events.Label.{Label}
+use Rattle.sx_tree.specs.Named.{Name}
 use Rattle.sx_tree.specs.Tree.{Happening, starts, ends, says, instructs, closes, Forest, none, text, instruction, element}
+use Rattle.sx_build.specs.Asked as ask
+use Rattle.sx_build.specs.Asked.{all_asked_at}
 use Rattle.sx_build.specs.declared.raw.Raw.{Raw}
-use Rattle.sx_build.specs.declared.raw.Raw.TheVariants as raw
 use Rattle.sx_kinds.specs.declared.constructs.Pattern.{Pattern}
 use Rattle.sx_kinds.specs.declared.sheets.Template.{Template}
-use Rattle.sx_machine.specs.declared.plans.Plan.{Plan}
+use Rattle.sx_machine.specs.declared.plans.Plan.{Plan as KeptPlan}
 use Rattle.sx_machine.specs.declared.plans.Rule.{Rule}
+use Rattle.sx_machine.specs.declared.session.After.{After}
+use Rattle.sx_machine.specs.declared.session.After.TheVariants as after
 use Rattle.sx_machine.specs.declared.session.Frame.{Frame}
 use Rattle.sx_machine.specs.declared.session.Job.{Job}
 use Rattle.sx_machine.specs.declared.session.Job.TheVariants as job
-use Rattle.sx_machine.specs.Body.{Body, nil, literal, words, apply, body_of}
-use Rattle.sx_machine.specs.Run.{Out, waits, nothing, gives, next, too_deep, applied}
+use Rattle.sx_machine.specs.Body.{Body, nil, literal, copies, words, apply, body_of, written_out}
+use Rattle.sx_machine.specs.Run.{Out, waits, nothing, gives, next, too_deep, copied_attributes, copied_instruction, applied}
 
 -- ---- plans
 
--- the children are not asked for
-abbrev pub still : List Raw → Plan
-still raws = record { before = raws; behind = None }
-
--- the children are asked for between these two
-abbrev pub looking : List Raw → List Raw → Plan
-looking before after = record { before = before; behind = Some after }
-
--- what a plan gives behind the children it asks for becomes longer, or what it gives before it is known whether it asks
-abbrev pub then_at : List Raw → Option (List Raw) → List Raw → Option (List Raw) → Plan
-then_at a None c d = record { before = a ++ c; behind = d }
-then_at a (Some b) c None = looking a (b ++ c)
-then_at a (Some b) c (Some d) = looking a (b ++ (c ++ d))
+-- the children are not asked for; or they are asked for between these two
+pub data Plan : Type 0 where
+  still : Out → Plan
+  looking : Out → Out → Plan
 
 -- one plan behind another; of two that ask for the children the first does
 abbrev pub then_plan : Plan → Plan → Plan
-then_plan p q = then_at p.before p.behind q.before q.behind
+then_plan (still a) (still c) = still (next a c)
+then_plan (still a) (looking c d) = looking (next a c) d
+then_plan (looking a b) (still c) = looking a (next b c)
+then_plan (looking a b) (looking c d) = looking a (next b (next c d))
 
--- the plan of a body
-abbrev pub plan_of : Body → Plan
-plan_of nil = still []
-plan_of (literal line label content rest) =
-    then_plan (then_plan (then_plan (still (raw.Start label ∷ [])) (plan_of content)) (still (raw.End ∷ []))) (plan_of rest)
-plan_of (words s rest) = then_plan (still (raw.Text s ∷ [])) (plan_of rest)
-plan_of (apply rest) = then_plan (looking [] []) (plan_of rest)
+-- the plan of a body, where so many invocations are left for attributes
+abbrev pub plan_of : ℕ → Body Name → Plan
+plan_of left nil = still (gives [])
+plan_of left (literal line name content rest) =
+    then_plan (then_plan (then_plan (still (gives (ask.starts name ∷ []))) (plan_of left content)) (still (gives (ask.ends ∷ [])))) (plan_of left rest)
+plan_of left (copies attributes rest) = then_plan (still (copied_attributes left attributes)) (plan_of left rest)
+plan_of left (words s rest) = then_plan (still (gives (ask.says s ∷ []))) (plan_of left rest)
+plan_of left (apply rest) = then_plan (looking (gives []) (gives [])) (plan_of left rest)
+
+-- ---- the plans of templates, as the session keeps them
+
+-- what these ask for, by a table of names
+abbrev pub read_raws : List (List ℕ × List ℕ) → List Raw → Out
+read_raws names raws = gives (all_asked_at names raws)
+
+-- a plan, by what it keeps before and behind the children
+abbrev pub read_parts : List (List ℕ × List ℕ) → List Raw → Option (List Raw) → Plan
+read_parts names before None = still (read_raws names before)
+read_parts names before (Some behind) = looking (read_raws names before) (read_raws names behind)
+
+-- a plan as the session keeps it
+abbrev pub read_plan : List (List ℕ × List ℕ) → KeptPlan → Plan
+read_plan names p = read_parts names p.before p.behind
 
 -- the number of the name that a pattern has
 abbrev pub pattern_name : Option Pattern → Option ℕ
 pattern_name None = None
 pattern_name (Some p) = Some p.name
 
+-- a plan is that of a body, by each table of names
+abbrev pub IsPlanOf : Body Label → KeptPlan → Type 0
+IsPlanOf b p = (names : List (List ℕ × List ℕ)) (left : ℕ) → read_plan names p ≡ plan_of left (written_out names b)
+
 -- a template as the session keeps it
-abbrev pub rule_of : Template → Rule
-rule_of t = record { name = pattern_name t.pattern; plan = plan_of (body_of t.body) }
+pub record IsRuleOf (t : Template) (r : Rule) : Type 0 where
+  pub named : r.name ≡ pattern_name t.pattern
+  pub planned : IsPlanOf (body_of t.body) r.plan
+
+-- templates as the session keeps them, in order
+abbrev pub AreRulesOf : List Template → List Rule → Type 0
+AreRulesOf [] [] = Unit {0}
+AreRulesOf [] (r ∷ rs) = ⊥
+AreRulesOf (t ∷ ts) [] = ⊥
+AreRulesOf (t ∷ ts) (r ∷ rs) = IsRuleOf t r × AreRulesOf ts rs
 
 -- ---- frames
 
 -- An open element to the meaning: what is done with its children, and what is given behind them.
 pub record Task : Type 0 where
   pub job : Job
-  pub after : List Raw
+  pub after : Out
+
+-- what a plan gives before the children
+abbrev pub before_of : Plan → Out
+before_of (still a) = a
+before_of (looking a b) = a
 
 -- what a plan gives behind the children
-abbrev pub after_of : Option (List Raw) → List Raw
-after_of None = []
-after_of (Some after) = after
-
--- what a rule gives behind the children, if there is one at that place
-abbrev pub after_rule : Option Rule → List Raw
-after_rule None = []
-after_rule (Some r) = after_of r.plan.behind
-
--- what the rule at a place gives behind the children
-abbrev pub after_at : List Rule → Option ℕ → List Raw
-after_at rules None = []
-after_at rules (Some n) = after_rule (slice_get rules n)
-
--- the task of a frame, which names its rule by the place
-abbrev pub task_of : List Rule → Frame → Task
-task_of rules f = record { job = f.job; after = after_at rules f.rule }
+abbrev pub after_of : Plan → Out
+after_of (still a) = gives []
+after_of (looking a b) = b
 
 -- the work for the children, where so many invocations are left for them: templates are applied to them, or nothing is done
-abbrev pub job_for : ℕ → Option (List Raw) → Job
-job_for left None = job.Skip
-job_for left (Some after) = job.Apply left
+abbrev pub job_of : ℕ → Plan → Job
+job_of left (still a) = job.Skip
+job_of left (looking a b) = job.Apply left
 
 -- the task of an element with this plan
 abbrev pub task_for : ℕ → Plan → Task
-task_for left p = record { job = job_for left p.behind; after = after_of p.behind }
+task_for left p = record { job = job_of left p; after = after_of p }
+
+-- what a rule gives behind the children, if there is one at that place
+abbrev pub after_rule : List (List ℕ × List ℕ) → Option Rule → Out
+after_rule names None = gives []
+after_rule names (Some r) = after_of (read_plan names r.plan)
+
+-- what comes behind the children of a frame: nothing, what the rule at a place gives, or the end of a copy
+abbrev pub after_at : List (List ℕ × List ℕ) → List Rule → After → Out
+after_at names rules after.Nothing = gives []
+after_at names rules (after.Rule place) = after_rule names (slice_get rules place)
+after_at names rules after.Copy = gives (ask.ends ∷ [])
+
+-- the task of a frame
+abbrev pub task_of : List (List ℕ × List ℕ) → List Rule → Frame → Task
+task_of names rules f = record { job = f.job; after = after_at names rules f.after }
 
 -- nothing to do
 abbrev pub idle : Task
-idle = record { job = job.Skip; after = [] }
+idle = record { job = job.Skip; after = gives [] }
 
 -- what comes at the end of an element with this task
 abbrev pub closing : Task → Out
-closing t = next (gives t.after) (nothing waits)
+closing t = next t.after (nothing waits)
 
 -- the work for the children of the innermost open element
 abbrev pub last_job : Job → List Task → Job
@@ -111,31 +144,26 @@ ending_of (t ∷ ts) = last_closing t ts
 abbrev pub saying : Job → List ℕ → Out
 saying job.Skip s = nothing waits
 saying (job.Apply zero) s = next too_deep (nothing waits)
-saying (job.Apply (suc left)) s = next (gives (raw.Text s ∷ [])) (nothing waits)
+saying (job.Apply (suc left)) s = next (gives (ask.says s ∷ [])) (nothing waits)
 
--- what comes with a processing instruction
-abbrev pub instructing : Job → Out
-instructing job.Skip = nothing waits
-instructing (job.Apply zero) = next too_deep (nothing waits)
-instructing (job.Apply (suc left)) = nothing waits
+-- what comes with a processing instruction, which is or is not copied
+abbrev pub instructing : Bool → Job → List ℕ → List ℕ → Out
+instructing is_copying job.Skip target c = nothing waits
+instructing is_copying (job.Apply zero) target c = next too_deep (nothing waits)
+instructing is_copying (job.Apply (suc left)) target c = next (gives (copied_instruction is_copying target c)) (nothing waits)
 
-module _ {E : Type 0} (chosen : E → Body) where
-  -- what a job gives at an element with these children
-  abbrev pub content : Job → Bool → Forest E → Out
-  content job.Skip is_open kids = gives []
-  content (job.Apply left) is_open kids = applied chosen left is_open kids
-
+module _ {E : Type 0} (chosen : E → Body Name) where
   -- the task of an element that starts where this is the work
   abbrev pub entered : Job → E → Task
   entered job.Skip e = idle
   entered (job.Apply zero) e = idle
-  entered (job.Apply (suc left)) e = task_for left (plan_of (chosen e))
+  entered (job.Apply (suc left)) e = task_for left (plan_of left (chosen e))
 
   -- what comes before its children
   abbrev pub first : Job → E → Out
   first job.Skip e = gives []
   first (job.Apply zero) e = too_deep
-  first (job.Apply (suc left)) e = gives (plan_of (chosen e)).before
+  first (job.Apply (suc left)) e = before_of (plan_of left (chosen e))
 
   -- the tasks of the open elements, the outermost first
   abbrev pub tasks : Job → Forest E → List Task
@@ -145,10 +173,16 @@ module _ {E : Type 0} (chosen : E → Body) where
   tasks j (element e true kids rest) = entered j e ∷ tasks (entered j e).job kids
   tasks j (element e false kids rest) = tasks j rest
 
+module _ {E : Type 0} (is_copying : Bool) (chosen : E → Body Name) where
+  -- what a job gives at an element with these children
+  abbrev pub content : Job → Bool → Forest E → Out
+  content job.Skip is_open kids = gives []
+  content (job.Apply left) is_open kids = applied is_copying chosen left is_open kids
+
   -- what comes with what happens, where these are the tasks of the open elements
   abbrev pub reacts : Job → List Task → Happening E → Out
-  reacts j ts (starts e) = next (first (last_job j ts) e) (nothing waits)
+  reacts j ts (starts e) = next (first chosen (last_job j ts) e) (nothing waits)
   reacts j ts ends = ending_of ts
   reacts j ts (says s) = saying (last_job j ts) s
-  reacts j ts (instructs target c) = instructing (last_job j ts)
+  reacts j ts (instructs target c) = instructing is_copying (last_job j ts) target c
   reacts j ts closes = gives []

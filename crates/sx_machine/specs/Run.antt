@@ -1,12 +1,14 @@
 -- What a stylesheet gives on an open tree.
-use Rattle.std.specs.Prelude.{ℕ, zero, suc, Bool, true, false, List, [], ◌∷◌, ◌++◌, if◌then◌else◌}
+use Rattle.std.specs.Prelude.{ℕ, zero, suc, Bool, true, false, List, [], ◌∷◌, ◌++◌, Option, Some, None, if◌then◌else◌}
 use Rattle.sx_atoms.specs.declared.error_codes.Code.{Code}
 use Rattle.sx_atoms.specs.declared.error_codes.Code.TheVariants as error
-use Rattle.sx_tree.specs.declared.events.Label.{Label}
+use Rattle.sx_tree.specs.Named.{Name, Attribute}
 use Rattle.sx_tree.specs.Tree.{Forest, none, text, instruction, element, Document}
-use Rattle.sx_build.specs.declared.raw.Raw.{Raw}
-use Rattle.sx_build.specs.declared.raw.Raw.TheVariants as raw
-use Rattle.sx_machine.specs.Body.{Body, nil, literal, words, apply}
+use Rattle.sx_build.specs.Asked as ask
+use Rattle.sx_build.specs.Asked.{Asked}
+use Rattle.sx_build.specs.Build.{Build, error_of}
+use Rattle.sx_lines.specs.declared.events.Built.{Built}
+use Rattle.sx_machine.specs.Body.{Body, nil, literal, copies, words, apply}
 
 -- Where what is given ends: it is whole; it goes on with what has not come; or there is an error.
 pub data Ending : Type 0 where
@@ -16,7 +18,7 @@ pub data Ending : Type 0 where
 
 -- what is asked for in turn, and where it ends
 pub record Out : Type 0 where
-  pub raw : List Raw
+  pub raw : List Asked
   pub ending : Ending
 
 -- nothing, and it ends so
@@ -24,10 +26,10 @@ abbrev pub nothing : Ending → Out
 nothing e = record { raw = []; ending = e }
 
 -- all of these
-abbrev pub gives : List Raw → Out
+abbrev pub gives : List Asked → Out
 gives raws = record { raw = raws; ending = done }
 
-abbrev pub behind : List Raw → Ending → Out → Out
+abbrev pub behind : List Asked → Ending → Out → Out
 behind raws done o = record { raw = raws ++ o.raw; ending = o.ending }
 behind raws waits o = record { raw = raws; ending = waits }
 behind raws (stops c) o = record { raw = raws; ending = stops c }
@@ -37,8 +39,8 @@ abbrev pub next : Out → Out → Out
 next a b = behind a.raw a.ending b
 
 -- an element round what is given
-abbrev pub wrap : Label → Out → Out
-wrap label o = next (gives (raw.Start label ∷ [])) (next o (gives (raw.End ∷ [])))
+abbrev pub wrap : Name → Out → Out
+wrap name o = next (gives (ask.starts name ∷ [])) (next o (gives (ask.ends ∷ [])))
 
 -- a template is invoked beyond the limit
 abbrev pub too_deep : Out
@@ -83,23 +85,40 @@ module _ {E : Type 0} where
 
 -- ---- bodies (XSLT 3.0, 5.7 and 11)
 
--- a body, where this is what templates give that are applied to the children
-abbrev pub run_body : Out → Body → Out
-run_body applied nil = gives []
-run_body applied (literal line label content rest) = next (wrap label (run_body applied content)) (run_body applied rest)
-run_body applied (words s rest) = next (gives (raw.Text s ∷ [])) (run_body applied rest)
-run_body applied (apply rest) = next applied (run_body applied rest)
+-- a body, where this is what templates give that are applied to attributes, and to the children
+abbrev pub run_body : (List Attribute → Out) → Out → Body Name → Out
+run_body copied applied nil = gives []
+run_body copied applied (literal line name content rest) = next (wrap name (run_body copied applied content)) (run_body copied applied rest)
+run_body copied applied (copies attributes rest) = next (copied attributes) (run_body copied applied rest)
+run_body copied applied (words s rest) = next (gives (ask.says s ∷ [])) (run_body copied applied rest)
+run_body copied applied (apply rest) = next applied (run_body copied applied rest)
 
--- ---- templates (XSLT 3.0, 6.3 to 6.7): `chosen` is the body for an element
+-- ---- templates (XSLT 3.0, 6.3 to 6.7)
 
-module _ {E : Type 0} (chosen : E → Body) where
-  -- A template at a node, where so many invocations are left, this one among them. The built-in templates of text-only
-  -- copy give a text and leave out a processing instruction (6.7.1).
+-- the built-in template of shallow copy at an attribute, where so many invocations are left, this one among them
+abbrev pub copied_attribute : ℕ → Attribute → Out
+copied_attribute zero a = too_deep
+copied_attribute (suc left) a = gives (ask.has a ∷ [])
+
+-- the same at each of these attributes
+abbrev pub copied_attributes : ℕ → List Attribute → Out
+copied_attributes left [] = gives []
+copied_attributes left (a ∷ rest) = next (copied_attribute left a) (copied_attributes left rest)
+
+-- a processing instruction is copied by shallow copy, and left out by text-only copy
+abbrev pub copied_instruction : Bool → List ℕ → List ℕ → List Asked
+copied_instruction false target content = []
+copied_instruction true target content = ask.instructs target content ∷ []
+
+-- where nodes that no template matches are or are not copied, and `chosen` is the body for an element
+module _ {E : Type 0} (is_copying : Bool) (chosen : E → Body Name) where
+  -- A template at a node, where so many invocations are left, this one among them. The built-in templates give a text (6.7.1,
+  -- 6.7.2).
   abbrev pub invoked : ℕ → Node E → Out
   invoked zero n = too_deep
-  invoked (suc left) (text_node s) = gives (raw.Text s ∷ [])
-  invoked (suc left) (instruction_node target content) = gives []
-  invoked (suc left) (element_node e is_open kids) = run_body (loop (invoked left) (child is_open kids)) (chosen e)
+  invoked (suc left) (text_node s) = gives (ask.says s ∷ [])
+  invoked (suc left) (instruction_node target content) = gives (copied_instruction is_copying target content)
+  invoked (suc left) (element_node e is_open kids) = run_body (copied_attributes left) (loop (invoked left) (child is_open kids)) (chosen e)
 
   -- templates are applied to the children of a node
   abbrev pub applied : ℕ → Bool → Forest E → Out
@@ -116,6 +135,16 @@ is_done done = true
 is_done waits = false
 is_done (stops c) = false
 
--- the most templates that are open at once, built-in ones counted
-abbrev pub stated_invocations : ℕ
-stated_invocations = 256
+-- where a result ends: at an error of what was asked for, or else where that ends
+abbrev pub ending_with : Option Code → Ending → Ending
+ending_with (Some c) e = stops c
+ending_with None e = e
+
+-- the built events of a result, and where it ends
+pub record Result : Type 0 where
+  pub built : List Built
+  pub ending : Ending
+
+-- what is built of what is asked for
+abbrev pub result_of : Out → Result
+result_of o = record { built = Build o.raw (is_done o.ending); ending = ending_with (error_of o.raw) o.ending }

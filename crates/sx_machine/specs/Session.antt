@@ -1,14 +1,13 @@
 -- What a session stands for.
-use Rattle.std.specs.Prelude.{◌≡◌, ℕ, List, [], ◌∷◌, map, length}
-use Rattle.sx_kinds.specs.declared.sheets.Mode.{Mode}
-use Rattle.sx_kinds.specs.declared.sheets.OnNoMatch.TheVariants as unmatched
+use Rattle.std.specs.Prelude.{◌≡◌, ℕ, zero, suc, Option, Some, None, Bool, true, false, nat_eq, slice_get, slice_index_or, List, ◌++◌, map}
+use Rattle.sx_atoms.specs.declared.error_codes.Code.TheVariants as error
 use Rattle.sx_kinds.specs.declared.sheets.Sheet.{Sheet}
-use Rattle.sx_tree.specs.Tree.{Document, tree_of}
-use Rattle.sx_tree.specs.Events.{Element, happenings_of}
-use Rattle.sx_tree.specs.declared.events.Event.{Event}
-use Rattle.sx_lines.specs.declared.events.Built.{Built}
-use Rattle.sx_build.specs.Build.{Build}
-use Rattle.sx_build.specs.Builder as builder
+use Rattle.sx_tree.specs.Tree.{Document, Happening, tree_of}
+use Rattle.sx_tree.specs.Named.{Begun}
+use Rattle.sx_build.specs.Asked.{Asked}
+use Rattle.sx_build.specs.Build.{Build, error_of}
+use Rattle.sx_machine.specs.declared.plans.Rule.{Rule}
+use Rattle.sx_machine.specs.declared.rule_table.RuleTable.{RuleTable}
 use Rattle.sx_machine.specs.declared.session.Job.{Job}
 use Rattle.sx_machine.specs.declared.session.Job.TheVariants as job
 use Rattle.sx_machine.specs.declared.session.Session.{Session}
@@ -16,38 +15,13 @@ use Rattle.sx_machine.specs.declared.session.State.{State}
 use Rattle.sx_machine.specs.declared.session.State.TheVariants as state
 use Rattle.sx_machine.specs.declared.session.Step.{Step}
 use Rattle.sx_machine.specs.declared.session.Step.TheVariants as step
-use Rattle.std.specs.Prelude.{Option, Some, None, Bool, true, false, nat_eq, slice_get, slice_index_or}
-use Rattle.sx_machine.specs.declared.plans.Rule.{Rule}
-use Rattle.sx_machine.specs.declared.rule_table.RuleTable.{RuleTable}
-use Rattle.sx_machine.specs.Body.{culprit, AreKnown}
 use Rattle.sx_machine.specs.Choice.{chosen_for, last_that}
-use Rattle.sx_machine.specs.Run.{Out, Ending, done, waits, stops, meaning, is_done, stated_invocations}
-use Rattle.sx_machine.specs.Plan.{rule_of, task_of, tasks}
+use Rattle.sx_machine.specs.Run.{Ending, done, waits, stops, ending_with, Result, result_of}
+use Rattle.sx_machine.specs.Meaning.{IsReady, is_copying_first, meaning_on}
+use Rattle.sx_machine.specs.Writer.{StandsFor}
+use Rattle.sx_machine.specs.Plan.{AreRulesOf, task_of, tasks}
 
--- elements and texts without a template of their own are passed by text-only copy
-abbrev pub text_only : Mode
-text_only = record { name = None; declared = true; streamable = true; no_match = unmatched.TextOnlyCopy }
-
--- It has the unnamed mode, which is declared and streamable, alone; it can be streamed; and the names have the numbers of
--- its names.
-pub record IsReady (sheet : Sheet) (names : List (List ℕ × List ℕ)) : Type 0 where
-  pub mode : sheet.modes ≡ text_only ∷ []
-  pub streamable : culprit sheet.templates ≡ None
-  pub known : AreKnown (length names) sheet.templates
-
--- the meaning of the stylesheet on an open tree
-abbrev pub meaning_on : Sheet → Document Element → Out
-meaning_on sheet d = meaning (chosen_for sheet.templates) stated_invocations d
-
--- the meaning of the stylesheet on the open tree of the events
-abbrev pub meaning_of : Sheet → List Event → Out
-meaning_of sheet events = meaning_on sheet (tree_of (happenings_of events))
-
--- the built events of the meaning
-abbrev pub built_of : Sheet → List (List ℕ × List ℕ) → List Event → List Built
-built_of sheet names events = Build names (meaning_of sheet events).raw (is_done (meaning_of sheet events).ending)
-
--- whether a session goes on, where the meaning ends so
+-- whether a session goes on, where the result ends so
 abbrev pub state_of : Ending → State
 state_of done = state.Closed
 state_of waits = state.Going
@@ -71,9 +45,15 @@ is_spent_state state.Spent = true
 abbrev pub is_spent : Session → Bool
 is_spent s = is_spent_state s.state
 
--- the work for the children of the document node
-abbrev pub root : Job
-root = job.Apply 255
+-- the work for the children of the document node, where there may be so many invocations, one of them its own
+abbrev pub root_job : ℕ → Job
+root_job zero = job.Skip
+root_job (suc left) = job.Apply left
+
+-- the state in which nothing has happened
+abbrev pub first_state : ℕ → State
+first_state zero = state.Stopped error.Sxli0001
+first_state (suc left) = state.Going
 
 -- the rule at a place
 abbrev pub rule_at : List Rule → Option ℕ → Option Rule
@@ -97,16 +77,36 @@ is_named number r = is_number number r.name
 abbrev pub FindsLast : RuleTable → Type 0
 FindsLast table = (number : ℕ) → rule_at table.list (place_in table.places number) ≡ last_that (is_named number) table.list
 
--- The session is what this stylesheet has on an open tree, and so many built events were taken from it. Names are those
--- that it was started with.
-pub record StandsOn (sheet : Sheet) (names : List (List ℕ × List ℕ)) (s : Session) (d : Document Element) (given : ℕ) : Type 0 where
-  pub ready : IsReady sheet names
-  pub rules_are : s.rules.list ≡ map rule_of sheet.templates
-  pub places_are : FindsLast s.rules
-  pub builds : builder.Stands s.builder names (meaning_on sheet d).raw (is_done (meaning_on sheet d).ending) given
-  pub state_is : s.state ≡ state_of (meaning_on sheet d).ending
-  pub frames_are : s.state ≡ state.Going → map (task_of s.rules.list) s.frames ≡ tasks (chosen_for sheet.templates) root d.content
+-- What the builder of a session was asked for. Where the session goes on it is all that the stylesheet asks for, and the
+-- content is not at its end.
+pub record Builds (s : Session) (all : List Asked) (result : Result) (given : ℕ) : Type 0 where
+  pub asked : List Asked
+  pub at_end : Bool
+  pub stands : StandsFor s.writer asked at_end given
+  pub built_is : Build asked at_end ≡ result.built
+  pub all_asked : s.state ≡ state.Going → (asked ≡ all) × (at_end ≡ false)
 
--- the session is what this stylesheet has after these events
-abbrev pub Stands : Sheet → List (List ℕ × List ℕ) → Session → List Event → ℕ → Type 0
-Stands sheet names s events given = StandsOn sheet names s (tree_of (happenings_of events)) given
+-- The session is what this stylesheet has on an open tree, where there may be so many invocations, and so many built events
+-- were taken from it. Names are those that it was started with.
+pub record StandsOn (sheet : Sheet) (names : List (List ℕ × List ℕ)) (invocations : ℕ) (s : Session) (d : Document Begun) (given : ℕ) : Type 0 where
+  pub ready : IsReady sheet names
+  pub rules_are : AreRulesOf sheet.templates s.rules.list
+  pub places_are : FindsLast s.rules
+  pub copying_is : s.is_copying ≡ is_copying_first sheet.modes
+  pub root_is : s.root ≡ root_job invocations
+  pub builds : Builds s (meaning_on sheet names invocations d).raw (result_of (meaning_on sheet names invocations d)) given
+  pub state_is : s.state ≡ state_of (result_of (meaning_on sheet names invocations d)).ending
+  pub frames_are : s.state ≡ state.Going → map (task_of names s.rules.list) s.frames
+      ≡ tasks (chosen_for names (is_copying_first sheet.modes) sheet.templates) s.root d.content
+
+-- These were asked for besides, nothing else is different but the frames, and the state is that of what was asked for.
+pub record Wrote (old new : Session) (more : List Asked) : Type 0 where
+  pub same_rules : new.rules ≡ old.rules
+  pub same_copying : new.is_copying ≡ old.is_copying
+  pub same_root : new.root ≡ old.root
+  pub wrote : (asked : List Asked) (given : ℕ) → error_of asked ≡ None → StandsFor old.writer asked false given
+      → StandsFor new.writer (asked ++ more) false given × (new.state ≡ state_of (ending_with (error_of (asked ++ more)) waits))
+
+-- the session is what this stylesheet has after what has happened
+abbrev pub Stands : Sheet → List (List ℕ × List ℕ) → ℕ → Session → List (Happening Begun) → ℕ → Type 0
+Stands sheet names invocations s p given = StandsOn sheet names invocations s (tree_of p) given

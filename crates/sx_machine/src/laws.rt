@@ -1,14 +1,14 @@
 // What the definitions come to.
-ghost use Rattle.std.specs.Prelude.{◌≡◌, ◌++◌, List, None};
+ghost use Rattle.std.specs.Prelude.{◌≡◌, ◌++◌, ℕ, List, None};
 ghost use Rattle.sx_kinds.specs.declared.sheets.Sheet.{Sheet as Stylesheet};
 ghost use Rattle.sx_machine.specs.Body.{culprit};
 ghost use Rattle.sx_machine.specs.Growth.{MayAllCome, IsGrown};
-ghost use Rattle.sx_machine.specs.Session.{meaning_of};
-ghost use Rattle.sx_tree.specs.Events.{happenings_of};
-ghost use Rattle.sx_tree.specs.declared.events.Event.{Event as DocumentEvent};
+ghost use Rattle.sx_machine.specs.Meaning.{result_for};
+ghost use Rattle.sx_tree.specs.Named.{Begun};
+ghost use Rattle.sx_tree.specs.Tree.{Happening};
 
-/// More events only add to what a stylesheet that can be streamed gives, and an end other than a wait is final.
+/// More of a document only adds to the result of a stylesheet that can be streamed, and an end other than a wait is final.
 pub fn growth()
-    ensures { (sheet : Stylesheet) → culprit sheet.templates ≡ None → (p more : List DocumentEvent)
-        → MayAllCome (happenings_of p) (happenings_of more) → IsGrown (meaning_of sheet p) (meaning_of sheet (p ++ more)) }
+    ensures { (sheet : Stylesheet) → culprit sheet.templates ≡ None → (names : List (List ℕ × List ℕ)) (invocations : ℕ) (p more : List (Happening Begun))
+        → MayAllCome p more → IsGrown (result_for sheet names invocations p) (result_for sheet names invocations (p ++ more)) }
 {}

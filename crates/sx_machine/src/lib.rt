@@ -7,6 +7,7 @@ mod session;
 mod streamability;
 #[cfg(test)]
 mod tests;
+mod writer;
 
 /// Laws over the definitions, each the contract of a function that does nothing.
 pub mod laws;
@@ -17,6 +18,8 @@ pub use plans::{Plan, Rule};
 #[doc(hidden)]
 pub use rule_table::RuleTable;
 #[doc(hidden)]
-pub use session::{Frame, Job};
+pub use session::{After, Frame, Job};
 pub use session::{Session, State, Step};
 pub use streamability::culprit;
+#[doc(hidden)]
+pub use writer::Writer;

@@ -1,7 +1,10 @@
 // The plans of templates.
-ghost use Rattle.std.specs.Prelude.{◌≡◌, ◌∷◌, [], OnOk, IfOk, map};
-ghost use Rattle.sx_machine.specs.Body.{Body, body_of, instr_in_front};
-ghost use Rattle.sx_machine.specs.Plan.{still, looking, then_plan, plan_of, pattern_name, rule_of};
+ghost use Rattle.std.specs.Prelude.{◌≡◌, ◌∷◌, [], ℕ, List, OnOk, IfOk};
+ghost use Rattle.sx_build.specs.Asked.{asked_at};
+ghost use Rattle.sx_machine.specs.Body.{Body, body_of, instr_in_front, written_out};
+ghost use Rattle.sx_machine.specs.Plan.{still, looking, then_plan, plan_of, read_plan, pattern_name, IsRuleOf, AreRulesOf};
+ghost use Rattle.sx_machine.specs.Run.{gives};
+ghost use Rattle.sx_tree.specs.declared.events.Label.{Label as NameLabel};
 
 use sqlite_items::Items;
 use std::alloc::{AllocError, Global};
@@ -26,7 +29,7 @@ pub struct Rule {
 impl Plan {
     // The plan of an empty body.
     fn new(alloc: Global) -> Plan
-        ensures { result ≡ still [] }
+        ensures { (names : List (List ℕ × List ℕ)) → read_plan names result ≡ still (gives []) }
     {
         Plan {
             before: Items::new(alloc),
@@ -36,7 +39,8 @@ impl Plan {
 
     // This is given behind what the plan has so far.
     fn push(&mut self, raw: Raw) -> Result<(), AllocError>
-        ensures { OnOk result (self.new ≡ then_plan self.old (still (raw ∷ []))) }
+        ensures { OnOk result ((names : List (List ℕ × List ℕ))
+            → read_plan names self.new ≡ then_plan (read_plan names self.old) (still (gives (asked_at names raw ∷ [])))) }
     {
         match &mut self.behind {
             Some(after) => after.push(raw),
@@ -46,7 +50,7 @@ impl Plan {
 
     // The children are asked for, if they were not asked for before.
     fn look(&mut self, alloc: Global)
-        ensures { self.new ≡ then_plan self.old (looking [] []) }
+        ensures { (names : List (List ℕ × List ℕ)) → read_plan names self.new ≡ then_plan (read_plan names self.old) (looking (gives []) (gives [])) }
     {
         if self.behind.is_none() {
             self.behind = Some(Items::new(alloc));
@@ -56,7 +60,8 @@ impl Plan {
 
 #[cycle(planning)]
 fn plan_instrs(alloc: Global, instrs: &[Instr], plan: &mut Plan) -> Result<(), AllocError>
-    ensures { OnOk result (plan.new ≡ then_plan plan.old (plan_of (body_of instrs.now))) }
+    ensures { OnOk result ((names : List (List ℕ × List ℕ)) (left : ℕ)
+        → read_plan names plan.new ≡ then_plan (read_plan names plan.old) (plan_of left (written_out names (body_of instrs.now)))) }
 {
     for instr in instrs {
         plan_instr(alloc, instr, plan)?;
@@ -66,7 +71,9 @@ fn plan_instrs(alloc: Global, instrs: &[Instr], plan: &mut Plan) -> Result<(), A
 
 #[cycle(planning)]
 fn plan_instr(alloc: Global, instr: &Instr, plan: &mut Plan) -> Result<(), AllocError>
-    ensures { OnOk result ((rest : Body) → then_plan plan.new (plan_of rest) ≡ then_plan plan.old (plan_of (instr_in_front instr.now rest))) }
+    ensures { OnOk result ((names : List (List ℕ × List ℕ)) (left : ℕ) (rest : Body NameLabel)
+        → then_plan (read_plan names plan.new) (plan_of left (written_out names rest))
+        ≡ then_plan (read_plan names plan.old) (plan_of left (written_out names (instr_in_front instr.now rest)))) }
 {
     match &instr.form {
         InstrForm::Literal { label } => {
@@ -94,7 +101,7 @@ fn name_of(pattern: &Option<Pattern>) -> Option<u64>
 
 // A template as the session keeps it.
 fn rule_from(alloc: Global, template: &Template) -> Result<Rule, AllocError>
-    ensures { IfOk result (λ r. r ≡ rule_of template.now) }
+    ensures { IfOk result (λ r. IsRuleOf template.now r) }
 {
     let mut plan = Plan::new(alloc);
     plan_instrs(alloc, template.body.as_slice(), &mut plan)?;
@@ -106,7 +113,7 @@ fn rule_from(alloc: Global, template: &Template) -> Result<Rule, AllocError>
 
 /// The templates as the session keeps them.
 pub(crate) fn rules_from(alloc: Global, templates: &[Template]) -> Result<Items<Rule>, AllocError>
-    ensures { IfOk result (λ rules. rules ≡ map rule_of templates.now) }
+    ensures { IfOk result (λ rules. AreRulesOf templates.now rules) }
 {
     let mut rules = Items::new(alloc);
     for template in templates {

@@ -1,7 +1,7 @@
 // The rules of a stylesheet, found by a number of a name.
-ghost use Rattle.std.specs.Prelude.{◌≡◌, ◌<◌, ◌≤◌, ℕ, Some, length, map, nat_eq, if◌then◌else◌, IfOk, OnOk};
+ghost use Rattle.std.specs.Prelude.{◌≡◌, ◌<◌, ◌≤◌, ℕ, Some, length, nat_eq, if◌then◌else◌, IfOk, IfSome, OnOk};
 ghost use Rattle.sx_machine.specs.Choice.{last_that};
-ghost use Rattle.sx_machine.specs.Plan.{rule_of};
+ghost use Rattle.sx_machine.specs.Plan.{AreRulesOf};
 ghost use Rattle.sx_machine.specs.Session.{rule_at, place_in, is_named};
 
 use crate::plans::{Rule, rules_from};
@@ -69,7 +69,7 @@ impl RuleTable {
         templates: &[Template],
         names: &Names,
     ) -> Result<RuleTable, AllocError>
-        ensures rules { IfOk result (λ table. table.list ≡ map rule_of templates.now) }
+        ensures rules { IfOk result (λ table. AreRulesOf templates.now table.list) }
         ensures found { IfOk result (λ table. (n : ℕ) → n < length names.now → rule_at table.list (place_in table.places n) ≡ last_that (is_named n) table.list) }
         ensures bound { IfOk result (λ table. length table.places ≤ length names.now) }
     {
@@ -78,13 +78,14 @@ impl RuleTable {
         Ok(RuleTable { list, places })
     }
 
-    /// The place of the last rule for the name with this number.
-    pub(crate) fn place(&self, number: u64) -> Option<usize>
-        ensures { result ≡ place_in self.now.places number }
+    /// The place of the rule that stands at this number, if there is one.
+    pub(crate) fn find(&self, number: u64) -> Option<usize>
+        ensures found { rule_at self.now.list result ≡ rule_at self.now.list (place_in self.now.places number) }
+        ensures within { IfSome result (λ place. place < length self.now.list) }
     {
         match self.places.as_slice().get(number as usize) {
-            Some(place) => *place,
-            None => None,
+            Some(Some(place)) if *place < self.list.len() => Some(*place),
+            _ => None,
         }
     }
 

@@ -1,32 +1,27 @@
 // The session.
 ghost use Rattle.std.specs.Prelude.{◌≡◌, ◌<◌, ◌∷◌, [], ◌++◌, ℕ, List, Bool, true, false, suc, Some, None, length, drop, map, slice_get, IfOk, IfSome, IsErr, OnOk, OnErr};
-ghost use Rattle.std.specs.Option.{option_copied};
-ghost use Rattle.sx_build.specs.declared.raw.Raw.{Raw as Request};
-ghost use Rattle.sx_build.specs.declared.raw.Raw.TheVariants as raw;
-ghost use Rattle.sx_build.specs.Build.{HaveNumbers};
-ghost use Rattle.sx_build.specs.Builder as building;
+ghost use Rattle.sx_build.specs.Asked.{asked_at};
 ghost use Rattle.sx_kinds.specs.declared.sheets.Sheet.{Sheet as Stylesheet};
 ghost use Rattle.sx_machine.specs.declared.plans.Rule.{Rule as RuleOf};
 ghost use Rattle.sx_machine.specs.declared.session.Job.TheVariants as job;
 ghost use Rattle.sx_machine.specs.declared.session.State.TheVariants as state;
-ghost use Rattle.sx_machine.specs.Plan.{after_at, task_of, last_job};
-ghost use Rattle.sx_machine.specs.Session.{root, rule_at};
-ghost use Rattle.sx_names.specs.Numbering.{KeepsPlaces};
-ghost use Rattle.sx_tree.specs.declared.events.Event.{Event as DocumentEvent};
-ghost use Rattle.sx_tree.specs.declared.events.Event.TheVariants as event;
+ghost use Rattle.sx_machine.specs.Choice.{chosen_for, built_in};
+ghost use Rattle.sx_machine.specs.Meaning.{is_copying_first};
+ghost use Rattle.sx_machine.specs.Plan.{read_raws, read_plan, plan_of, job_of, after_rule, after_at, task_of, last_job};
+ghost use Rattle.sx_machine.specs.Run.{Ending, ending_with};
+ghost use Rattle.sx_machine.specs.Session.{root_job, first_state, state_of, is_spent_state};
+ghost use Rattle.sx_names.specs.Numbering.{KeepsPlaces, IsDistinct};
 
-use crate::plans::Rule;
+use crate::plans::{Plan, Rule};
 use crate::rule_table::RuleTable;
+use crate::writer::Writer;
 use sqlite_items::Items;
 use std::alloc::{AllocError, Global};
 use sx_atoms::Code;
-use sx_build::{Builder, Builts, Raw};
-use sx_kinds::Sheet;
+use sx_build::{Builts, Raw};
+use sx_kinds::{Mode, OnNoMatch, Sheet};
 use sx_names::Names;
-use sx_tree::{Chars, Event};
-
-/// The most invocations of templates below that of the document node.
-const INVOCATIONS: u64 = 255;
+use sx_tree::{Attrs, Chars, Event, Label};
 
 /// What the children of an open element are for.
 #[derive(Clone, Copy, Debug, PartialEq, Eq)]
@@ -37,11 +32,22 @@ pub enum Job {
     Apply(u64),
 }
 
-/// An open element: what its children are for, and the place of the rule that gives what comes behind them.
+/// What comes behind the children of an open element.
+#[derive(Clone, Copy, Debug, PartialEq, Eq)]
+pub enum After {
+    /// nothing
+    Nothing,
+    /// what the rule at this place gives behind them
+    Rule(usize),
+    /// the end of the element's copy
+    Copy,
+}
+
+/// An open element.
 #[derive(Clone, Copy, Debug, PartialEq, Eq)]
 pub struct Frame {
     pub job: Job,
-    pub rule: Option<usize>,
+    pub after: After,
 }
 
 /// Whether a session goes on.
@@ -68,47 +74,64 @@ pub enum Step {
 
 /// Runs a stylesheet on a document as its events come.
 ///
-/// Contracts say by `Stands` which stylesheet it runs, which events it was fed, and how many built events were taken.
+/// Contracts say by `Stands` which stylesheet it runs, what happened in the document, and how many built events were taken.
 #[derive(Drop)]
 pub struct Session {
     alloc: Global,
     rules: RuleTable,
+    is_copying: bool,
+    root: Job,
     frames: Items<Frame>,
-    builder: Builder,
+    writer: Writer,
     state: State,
 }
 
-// Asks a builder for all of these, one behind the other.
-fn write(
-    alloc: Global,
-    builder: &mut Builder,
-    raws: &[Raw],
-    names: &Names,
-) -> Result<(), AllocError>
-    ensures { OnOk result ((known : List (List ℕ × List ℕ)) (before : List Request) (given : ℕ) → KeepsPlaces known names.now → HaveNumbers known raws.now
-        → building.Stands builder.old known before false given → building.Stands builder.new known (before ++ raws.now) false given) }
+// Whether the first of these modes copies nodes that no template matches.
+fn copies_unmatched(modes: &[Mode]) -> bool
+    ensures { result ≡ is_copying_first modes.now }
 {
-    for raw in raws {
-        builder.push(Raw::copy(alloc, raw)?, names)?;
+    match modes.first() {
+        Some(mode) => matches!(mode.no_match, OnNoMatch::ShallowCopy),
+        None => false,
     }
-    Ok(())
 }
 
-// The rule at a place.
-fn rule_in(rules: &[Rule], place: Option<usize>) -> Option<&Rule>
-    ensures { option_copied result ≡ rule_at rules.now place }
+// The work for the children of the document node, where there may be so many invocations, one of them its own.
+fn work_at_root(invocations: u64) -> Job
+    ensures { result ≡ root_job invocations }
 {
-    match place {
-        Some(place) => rules.get(place),
-        None => None,
+    if invocations == 0 {
+        return Job::Skip;
+    }
+    Job::Apply(invocations - 1)
+}
+
+// The state before the first event.
+fn state_at_start(invocations: u64) -> State
+    ensures { result ≡ first_state invocations }
+{
+    if invocations == 0 {
+        return State::Stopped(Code::Sxli0001);
+    }
+    State::Going
+}
+
+// Stopped by this error, or else as it is without an error.
+fn state_with(error: Option<Code>, otherwise: State) -> State
+    ensures state { (e : Ending) → otherwise ≡ state_of e → result ≡ state_of (ending_with error e) }
+    ensures kept { is_spent_state otherwise ≡ false → is_spent_state result ≡ false }
+{
+    match error {
+        Some(code) => State::Stopped(code),
+        None => otherwise,
     }
 }
 
 // What the rule at a place gives behind the children.
-fn behind_in(rules: &[Rule], place: Option<usize>) -> &[Raw]
-    ensures { result.now ≡ after_at rules.now place }
+fn behind_in(rules: &[Rule], place: usize) -> &[Raw]
+    ensures { (names : List (List ℕ × List ℕ)) → read_raws names result.now ≡ after_rule names (slice_get rules.now place) }
 {
-    match rule_in(rules, place) {
+    match rules.get(place) {
         Some(rule) => match &rule.plan.behind {
             Some(after) => after.as_slice(),
             None => &[],
@@ -117,41 +140,61 @@ fn behind_in(rules: &[Rule], place: Option<usize>) -> &[Raw]
     }
 }
 
-// The work for the children of the innermost open element.
-fn job_in(frames: &[Frame]) -> Job
-    ensures { (rules : List RuleOf) → result ≡ last_job root (map (task_of rules) frames.now) }
+// The work for the children of an element with this plan, where so many invocations are left for them.
+fn job_for(plan: &Plan, left: u64) -> Job
+    ensures { (names : List (List ℕ × List ℕ)) → result ≡ job_of left (read_plan names plan.now) }
+{
+    if plan.behind.is_some() {
+        return Job::Apply(left);
+    }
+    Job::Skip
+}
+
+// The work for the children of the innermost open element, or for those of the document node.
+fn job_in(frames: &[Frame], root: Job) -> Job
+    ensures { (names : List (List ℕ × List ℕ)) (rules : List RuleOf) → result ≡ last_job root (map (task_of names rules) frames.now) }
 {
     match frames.last() {
         Some(frame) => frame.job,
-        None => Job::Apply(INVOCATIONS),
+        None => root,
     }
 }
 
 impl Session {
     ghost use Rattle.sx_machine.specs.Growth.{MayCome};
-    ghost use Rattle.sx_machine.specs.Session.{IsReady, StandsOn, Stands, built_of, step_of, is_spent};
-    ghost use Rattle.sx_tree.specs.Events.{Element, happening_of, happenings_of};
-    ghost use Rattle.sx_tree.specs.Tree.{Document, push, starts, ends, says, instructs, closes, has_open};
+    ghost use Rattle.sx_machine.specs.Meaning.{IsReady, result_for};
+    ghost use Rattle.sx_machine.specs.Session.{StandsOn, Stands, Wrote, step_of, is_spent};
+    ghost use Rattle.sx_tree.specs.Named.{Begun, named, name_at, attributes_at, IsKnown};
+    ghost use Rattle.sx_tree.specs.Tree.{Document, Happening, push, starts, ends, says, instructs, closes, has_open};
 
-    /// A session of a stylesheet that was fed nothing.
-    pub fn start(alloc: Global, sheet: Sheet, names: &Names) -> Result<Session, AllocError>
-        ensures stands { IfOk result (λ s. IsReady sheet names.now → Stands sheet names.now s [] 0) }
+    /// A session of a stylesheet that was fed nothing, where so many invocations of templates may be open at once, one of
+    /// them that at the document node. Where there may be none it has stopped with SXLI0001.
+    pub fn start(
+        alloc: Global,
+        sheet: Sheet,
+        invocations: u64,
+        names: &Names,
+    ) -> Result<Session, AllocError>
+        ensures stands { IfOk result (λ s. IsReady sheet names.now → IsDistinct names.now → Stands sheet names.now invocations s [] 0) }
         ensures spent { IfOk result (λ s. is_spent s ≡ false) }
     {
         Ok(Session {
             alloc,
             rules: RuleTable::new(alloc, sheet.templates.as_slice(), names)?,
+            is_copying: copies_unmatched(sheet.modes.as_slice()),
+            root: work_at_root(invocations),
             frames: Items::new(alloc),
-            builder: Builder::new(alloc),
-            state: State::Going,
+            writer: Writer::new(alloc),
+            state: state_at_start(invocations),
         })
     }
 
-    /// Takes the next event of the document. It answers an error exactly where the meaning of the events ends in it, and
+    /// Takes the next event of the document. It answers an error exactly where the result for the events ends in it, and
     /// goes on to answer that. After an `AllocError` the session is spent: each later call that takes an event answers one.
     pub fn feed(&mut self, e: Event, names: &mut Names) -> Result<Step, AllocError>
-        ensures stands { OnOk result ((sheet : Stylesheet) (known : List (List ℕ × List ℕ)) (p : List DocumentEvent) (given : ℕ) → KeepsPlaces known names.old
-            → MayCome (happenings_of p) (happening_of e) → Stands sheet known self.old p given → Stands sheet known self.new (p ++ e ∷ []) given) }
+        ensures stands { OnOk result ((sheet : Stylesheet) (known : List (List ℕ × List ℕ)) (invocations : ℕ) (p : List (Happening Begun)) (given : ℕ)
+            → KeepsPlaces known names.old → IsDistinct names.old → IsKnown names.old e → MayCome p (named names.old e)
+            → Stands sheet known invocations self.old p given → Stands sheet known invocations self.new (p ++ named names.old e ∷ []) given) }
         ensures answer { IfOk result (λ step. step ≡ step_of self.new.state) }
         ensures names { names.new ≡ names.old }
         ensures err { OnErr result (is_spent self.new ≡ true) }
@@ -175,8 +218,9 @@ impl Session {
 
     /// Is told that the document has ended well: it is fed `Event::Close`.
     pub fn finish(&mut self, names: &mut Names) -> Result<Step, AllocError>
-        ensures stands { OnOk result ((sheet : Stylesheet) (known : List (List ℕ × List ℕ)) (p : List DocumentEvent) (given : ℕ) → KeepsPlaces known names.old
-            → MayCome (happenings_of p) (happening_of event.Close) → Stands sheet known self.old p given → Stands sheet known self.new (p ++ event.Close ∷ []) given) }
+        ensures stands { OnOk result ((sheet : Stylesheet) (known : List (List ℕ × List ℕ)) (invocations : ℕ) (p : List (Happening Begun)) (given : ℕ)
+            → KeepsPlaces known names.old → IsDistinct names.old → MayCome p closes
+            → Stands sheet known invocations self.old p given → Stands sheet known invocations self.new (p ++ closes ∷ []) given) }
         ensures answer { IfOk result (λ step. step ≡ step_of self.new.state) }
         ensures names { names.new ≡ names.old }
         ensures err { OnErr result (is_spent self.new ≡ true) }
@@ -188,13 +232,14 @@ impl Session {
 
     /// The built events that are fixed and were not taken yet, in order. It takes no memory.
     pub fn take_output(&mut self) -> Builts
-        ensures gives { (sheet : Stylesheet) (known : List (List ℕ × List ℕ)) (p : List DocumentEvent) (given : ℕ) → Stands sheet known self.old p given
-            → result ≡ drop given (built_of sheet known p) }
-        ensures stands { (sheet : Stylesheet) (known : List (List ℕ × List ℕ)) (p : List DocumentEvent) (given : ℕ) → Stands sheet known self.old p given
-            → Stands sheet known self.new p (length (built_of sheet known p)) }
+        ensures gives { (sheet : Stylesheet) (known : List (List ℕ × List ℕ)) (invocations : ℕ) (p : List (Happening Begun)) (given : ℕ)
+            → Stands sheet known invocations self.old p given → result ≡ drop given (result_for sheet known invocations p).built }
+        ensures stands { (sheet : Stylesheet) (known : List (List ℕ × List ℕ)) (invocations : ℕ) (p : List (Happening Begun)) (given : ℕ)
+            → Stands sheet known invocations self.old p given
+            → Stands sheet known invocations self.new p (length (result_for sheet known invocations p).built) }
         ensures state { self.new.state ≡ self.old.state }
     {
-        self.builder.drain()
+        self.writer.drain()
     }
 
     /// Whether the session goes on, or why not.
@@ -217,18 +262,16 @@ impl Session {
     // Takes an event where the session goes on.
     fn take(&mut self, e: Event, names: &Names) -> Result<(), AllocError>
         requires { self.old.state ≡ state.Going }
-        ensures stands { OnOk result ((sheet : Stylesheet) (known : List (List ℕ × List ℕ)) (p : List DocumentEvent) (given : ℕ) → KeepsPlaces known names.now
-            → MayCome (happenings_of p) (happening_of e) → Stands sheet known self.old p given → Stands sheet known self.new (p ++ e ∷ []) given) }
+        ensures stands { OnOk result ((sheet : Stylesheet) (known : List (List ℕ × List ℕ)) (invocations : ℕ) (p : List (Happening Begun)) (given : ℕ)
+            → KeepsPlaces known names.now → IsDistinct names.now → IsKnown names.now e → MayCome p (named names.now e)
+            → Stands sheet known invocations self.old p given → Stands sheet known invocations self.new (p ++ named names.now e ∷ []) given) }
         ensures kept { OnOk result (is_spent self.new ≡ false) }
     {
         match e {
-            Event::Start { label, .. } => self.start_element(label.number, names),
+            Event::Start { label, attrs, .. } => self.start_element(label, attrs, names),
             Event::End => self.end_element(names),
             Event::Text(text) => self.say(text, names),
-            Event::Pi { .. } => {
-                self.instruct();
-                Ok(())
-            }
+            Event::Pi { target, content } => self.instruct(target, content, names),
             Event::Close => {
                 self.close();
                 Ok(())
@@ -239,113 +282,202 @@ impl Session {
     // The document is closed.
     fn close(&mut self)
         requires { self.old.state ≡ state.Going }
-        ensures stands { (sheet : Stylesheet) (known : List (List ℕ × List ℕ)) (d : Document Element) (given : ℕ) → d.is_open ≡ true → has_open d.content ≡ false
-            → StandsOn sheet known self.old d given → StandsOn sheet known self.new (push d closes) given }
+        ensures stands { (sheet : Stylesheet) (known : List (List ℕ × List ℕ)) (invocations : ℕ) (d : Document Begun) (given : ℕ)
+            → d.is_open ≡ true → has_open d.content ≡ false
+            → StandsOn sheet known invocations self.old d given → StandsOn sheet known invocations self.new (push d closes) given }
         ensures kept { is_spent self.new ≡ false }
     {
-        self.builder.finish();
+        self.writer.finish();
         self.state = State::Closed;
     }
 
-    // An element with this number of its name starts.
-    fn start_element(&mut self, number: u64, names: &Names) -> Result<(), AllocError>
+    // An element starts.
+    fn start_element(&mut self, label: Label, attrs: Attrs, names: &Names) -> Result<(), AllocError>
         requires { self.old.state ≡ state.Going }
-        ensures ok { OnOk result ((sheet : Stylesheet) (known : List (List ℕ × List ℕ)) (d : Document Element) (e : Element) (given : ℕ) → KeepsPlaces known names.now → d.is_open ≡ true
-            → e.label.number ≡ number → StandsOn sheet known self.old d given → StandsOn sheet known self.new (push d (starts e)) given) }
+        ensures ok { OnOk result ((sheet : Stylesheet) (known : List (List ℕ × List ℕ)) (invocations : ℕ) (d : Document Begun) (e : Begun) (given : ℕ)
+            → KeepsPlaces known names.now → IsDistinct names.now → label.number < length names.now
+            → e.name ≡ name_at names.now label → e.attributes ≡ attributes_at names.now attrs → d.is_open ≡ true
+            → StandsOn sheet known invocations self.old d given → StandsOn sheet known invocations self.new (push d (starts e)) given) }
         ensures kept { OnOk result (is_spent self.new ≡ false) }
     {
-        match job_in(self.frames.as_slice()) {
+        match job_in(self.frames.as_slice(), self.root) {
             Job::Skip => self.frames.push(Frame {
                 job: Job::Skip,
-                rule: None,
+                after: After::Nothing,
             }),
             Job::Apply(left) => {
                 if left == 0 {
                     self.state = State::Stopped(Code::Sxli0001);
                     return Ok(());
                 }
-                self.enter(left - 1, number, names)
+                self.enter(left - 1, label, attrs, names)
             }
         }
     }
 
-    // A template is invoked at an element with this number of its name, where so many invocations are left for its children.
-    fn enter(&mut self, left: u64, number: u64, names: &Names) -> Result<(), AllocError>
+    // A template is invoked at an element, where so many invocations are left for its attributes and children.
+    fn enter(
+        &mut self,
+        left: u64,
+        label: Label,
+        attrs: Attrs,
+        names: &Names,
+    ) -> Result<(), AllocError>
         requires { self.old.state ≡ state.Going }
-        ensures ok { OnOk result ((sheet : Stylesheet) (known : List (List ℕ × List ℕ)) (d : Document Element) (e : Element) (given : ℕ) → KeepsPlaces known names.now → d.is_open ≡ true
-            → e.label.number ≡ number → last_job root (map (task_of self.old.rules.list) self.old.frames) ≡ job.Apply (suc left)
-            → StandsOn sheet known self.old d given → StandsOn sheet known self.new (push d (starts e)) given) }
-        ensures kept { self.new.state ≡ self.old.state }
+        ensures ok { OnOk result ((sheet : Stylesheet) (known : List (List ℕ × List ℕ)) (invocations : ℕ) (d : Document Begun) (e : Begun) (given : ℕ)
+            → KeepsPlaces known names.now → IsDistinct names.now → label.number < length names.now
+            → e.name ≡ name_at names.now label → e.attributes ≡ attributes_at names.now attrs → d.is_open ≡ true
+            → last_job self.old.root (map (task_of known self.old.rules.list) self.old.frames) ≡ job.Apply (suc left)
+            → StandsOn sheet known invocations self.old d given → StandsOn sheet known invocations self.new (push d (starts e)) given) }
+        ensures kept { OnOk result (is_spent self.new ≡ false) }
     {
-        let place = self.rules.place(number);
-        match rule_in(self.rules.as_slice(), place) {
+        match self.rules.find(label.number) {
+            Some(place) => self.invoke(left, place, names),
+            None if self.is_copying => self.copy_element(left, label, attrs, names),
             None => self.frames.push(Frame {
                 job: Job::Apply(left),
-                rule: None,
+                after: After::Nothing,
             }),
-            Some(rule) => {
-                let plan = &rule.plan;
-                write(self.alloc, &mut self.builder, plan.before.as_slice(), names)?;
-                let job = if plan.behind.is_some() {
-                    Job::Apply(left)
-                } else {
-                    Job::Skip
-                };
-                self.frames.push(Frame { job, rule: place })
-            }
         }
+    }
+
+    // The rule at this place is invoked.
+    fn invoke(&mut self, left: u64, place: usize, names: &Names) -> Result<(), AllocError>
+        requires going { self.old.state ≡ state.Going }
+        requires within { place < length self.old.rules.list }
+        ensures ok { OnOk result ((sheet : Stylesheet) (known : List (List ℕ × List ℕ)) (invocations : ℕ) (d : Document Begun) (e : Begun) (given : ℕ)
+            → KeepsPlaces known names.now
+            → ((r : RuleOf) → slice_get self.old.rules.list place ≡ Some r
+            → plan_of left (chosen_for known (is_copying_first sheet.modes) sheet.templates e) ≡ read_plan known r.plan) → d.is_open ≡ true
+            → last_job self.old.root (map (task_of known self.old.rules.list) self.old.frames) ≡ job.Apply (suc left)
+            → StandsOn sheet known invocations self.old d given → StandsOn sheet known invocations self.new (push d (starts e)) given) }
+        ensures kept { OnOk result (is_spent self.new ≡ false) }
+    {
+        let plan = &self.rules.as_slice()[place].plan;
+        self.writer
+            .push_all(self.alloc, plan.before.as_slice(), names)?;
+        self.frames.push(Frame {
+            job: job_for(plan, left),
+            after: After::Rule(place),
+        })?;
+        self.state = state_with(self.writer.error(), State::Going);
+        Ok(())
+    }
+
+    // An element that no template matches is copied.
+    fn copy_element(
+        &mut self,
+        left: u64,
+        label: Label,
+        attrs: Attrs,
+        names: &Names,
+    ) -> Result<(), AllocError>
+        requires { self.old.state ≡ state.Going }
+        ensures ok { OnOk result ((sheet : Stylesheet) (known : List (List ℕ × List ℕ)) (invocations : ℕ) (d : Document Begun) (e : Begun) (given : ℕ)
+            → e.name ≡ name_at names.now label → e.attributes ≡ attributes_at names.now attrs
+            → chosen_for known (is_copying_first sheet.modes) sheet.templates e ≡ built_in true e → d.is_open ≡ true
+            → last_job self.old.root (map (task_of known self.old.rules.list) self.old.frames) ≡ job.Apply (suc left)
+            → StandsOn sheet known invocations self.old d given → StandsOn sheet known invocations self.new (push d (starts e)) given) }
+        ensures kept { OnOk result (is_spent self.new ≡ false) }
+    {
+        self.writer.push(Raw::Start(label), names)?;
+        if left == 0 && !attrs.is_empty() {
+            self.state = state_with(self.writer.error(), State::Stopped(Code::Sxli0001));
+            return Ok(());
+        }
+        self.writer.push_attributes(self.alloc, attrs, names)?;
+        self.frames.push(Frame {
+            job: Job::Apply(left),
+            after: After::Copy,
+        })?;
+        self.state = state_with(self.writer.error(), State::Going);
+        Ok(())
     }
 
     // The innermost open element ends, if one is open.
     fn end_element(&mut self, names: &Names) -> Result<(), AllocError>
         requires { self.old.state ≡ state.Going }
-        ensures ok { OnOk result ((sheet : Stylesheet) (known : List (List ℕ × List ℕ)) (d : Document Element) (given : ℕ) → KeepsPlaces known names.now → d.is_open ≡ true
-            → StandsOn sheet known self.old d given → StandsOn sheet known self.new (push d ends) given) }
-        ensures kept { self.new.state ≡ self.old.state }
+        ensures ok { OnOk result ((sheet : Stylesheet) (known : List (List ℕ × List ℕ)) (invocations : ℕ) (d : Document Begun) (given : ℕ)
+            → KeepsPlaces known names.now → d.is_open ≡ true
+            → StandsOn sheet known invocations self.old d given → StandsOn sheet known invocations self.new (push d ends) given) }
+        ensures kept { OnOk result (is_spent self.new ≡ false) }
     {
         match self.frames.pop() {
-            Some(frame) => write(
-                self.alloc,
-                &mut self.builder,
-                behind_in(self.rules.as_slice(), frame.rule),
-                names,
-            ),
+            Some(frame) => self.leave(frame.after, names),
             None => Ok(()),
         }
+    }
+
+    // What comes behind the children of an element is asked for.
+    fn leave(&mut self, after: After, names: &Names) -> Result<(), AllocError>
+        requires { self.old.state ≡ state.Going }
+        ensures ok { OnOk result (Wrote self.old self.new (after_at names.now self.old.rules.list after).raw) }
+        ensures frames { self.new.frames ≡ self.old.frames }
+        ensures kept { OnOk result (is_spent self.new ≡ false) }
+    {
+        match after {
+            After::Nothing => Ok(()),
+            After::Rule(place) => {
+                let behind = behind_in(self.rules.as_slice(), place);
+                self.writer.push_all(self.alloc, behind, names)?;
+                self.state = state_with(self.writer.error(), State::Going);
+                Ok(())
+            }
+            After::Copy => self.write(Raw::End, names),
+        }
+    }
+
+    // One thing is asked for.
+    fn write(&mut self, raw: Raw, names: &Names) -> Result<(), AllocError>
+        ensures ok { OnOk result (Wrote self.old self.new (asked_at names.now raw ∷ [])) }
+        ensures frames { self.new.frames ≡ self.old.frames }
+        ensures kept { OnOk result (is_spent self.new ≡ false) }
+    {
+        self.writer.push(raw, names)?;
+        self.state = state_with(self.writer.error(), State::Going);
+        Ok(())
     }
 
     // A text comes: the built-in template copies it.
     fn say(&mut self, text: Chars, names: &Names) -> Result<(), AllocError>
         requires { self.old.state ≡ state.Going }
-        ensures ok { OnOk result ((sheet : Stylesheet) (known : List (List ℕ × List ℕ)) (d : Document Element) (given : ℕ) → KeepsPlaces known names.now → d.is_open ≡ true
-            → StandsOn sheet known self.old d given → StandsOn sheet known self.new (push d (says text)) given) }
+        ensures ok { OnOk result ((sheet : Stylesheet) (known : List (List ℕ × List ℕ)) (invocations : ℕ) (d : Document Begun) (given : ℕ)
+            → d.is_open ≡ true
+            → StandsOn sheet known invocations self.old d given → StandsOn sheet known invocations self.new (push d (says text)) given) }
         ensures kept { OnOk result (is_spent self.new ≡ false) }
     {
-        match job_in(self.frames.as_slice()) {
+        match job_in(self.frames.as_slice(), self.root) {
             Job::Skip => Ok(()),
             Job::Apply(left) => {
                 if left == 0 {
                     self.state = State::Stopped(Code::Sxli0001);
                     return Ok(());
                 }
-                self.builder.push(Raw::Text(text), names)
+                self.write(Raw::Text(text), names)
             }
         }
     }
 
-    // A processing instruction comes: the built-in template gives nothing for it.
-    fn instruct(&mut self)
+    // A processing instruction comes: the built-in template copies it, or gives nothing.
+    fn instruct(&mut self, target: Chars, content: Chars, names: &Names) -> Result<(), AllocError>
         requires { self.old.state ≡ state.Going }
-        ensures stands { (sheet : Stylesheet) (known : List (List ℕ × List ℕ)) (d : Document Element) (target content : List ℕ) (given : ℕ) → d.is_open ≡ true
-            → StandsOn sheet known self.old d given → StandsOn sheet known self.new (push d (instructs target content)) given }
-        ensures kept { is_spent self.new ≡ false }
+        ensures ok { OnOk result ((sheet : Stylesheet) (known : List (List ℕ × List ℕ)) (invocations : ℕ) (d : Document Begun) (given : ℕ)
+            → d.is_open ≡ true
+            → StandsOn sheet known invocations self.old d given
+            → StandsOn sheet known invocations self.new (push d (instructs target content)) given) }
+        ensures kept { OnOk result (is_spent self.new ≡ false) }
     {
-        match job_in(self.frames.as_slice()) {
-            Job::Skip => {}
+        match job_in(self.frames.as_slice(), self.root) {
+            Job::Skip => Ok(()),
             Job::Apply(left) => {
                 if left == 0 {
                     self.state = State::Stopped(Code::Sxli0001);
+                    return Ok(());
                 }
+                if !self.is_copying {
+                    return Ok(());
+                }
+                self.write(Raw::Pi { target, content }, names)
             }
         }
     }

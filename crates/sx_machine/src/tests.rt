@@ -8,7 +8,7 @@ use sx_kinds::{
 };
 use sx_lines::append;
 use sx_names::Names;
-use sx_tree::{Chars, Event, Label};
+use sx_tree::{Attr, Chars, Event, Label};
 
 fn construct(kind: ConstructKind) -> Construct {
     Construct {
@@ -103,13 +103,13 @@ fn templates(alloc: Global, names: &mut Names) -> Result<Items<Template>, AllocE
     Ok(templates)
 }
 
-fn sheet(alloc: Global, names: &mut Names) -> Result<Sheet, AllocError> {
+fn sheet(alloc: Global, names: &mut Names, no_match: OnNoMatch) -> Result<Sheet, AllocError> {
     let mut modes = Items::new(alloc);
     modes.push(Mode {
         name: None,
         declared: true,
         streamable: true,
-        no_match: OnNoMatch::TextOnlyCopy,
+        no_match,
     })?;
     Ok(Sheet {
         modes,
@@ -118,18 +118,44 @@ fn sheet(alloc: Global, names: &mut Names) -> Result<Sheet, AllocError> {
     })
 }
 
-fn started(alloc: Global, names: &mut Names) -> Result<Session, AllocError> {
-    let sheet = sheet(alloc, names)?;
-    Session::start(alloc, sheet, names)
+// A session of the templates, where so many invocations may be open.
+fn started(
+    alloc: Global,
+    names: &mut Names,
+    no_match: OnNoMatch,
+    invocations: u64,
+) -> Result<Session, AllocError> {
+    let sheet = sheet(alloc, names, no_match)?;
+    Session::start(alloc, sheet, invocations, names)
 }
 
-// A line as ESIS has it: an element starts, a text comes, or an element ends.
-fn event(alloc: Global, names: &mut Names, line: &str) -> Result<Event, AllocError> {
-    if let Some(name) = line.strip_prefix("(") {
-        return Ok(Event::Start {
+// The start of an element whose name and attributes are listed, each attribute with its own name as value.
+fn start(alloc: Global, names: &mut Names, list: &str) -> Result<Event, AllocError> {
+    let (name, listed) = list.split_once(' ').unwrap_or((list, ""));
+    let mut attrs = Items::new(alloc);
+    for name in listed.split_terminator(' ') {
+        attrs.push(Attr {
             label: label(alloc, names, name)?,
-            attrs: Items::new(alloc),
-            spaces: Items::new(alloc),
+            value: Chars::copy(alloc, name)?,
+        })?;
+    }
+    Ok(Event::Start {
+        label: label(alloc, names, name)?,
+        attrs,
+        spaces: Items::new(alloc),
+    })
+}
+
+// A line as ESIS has it, but for attributes, which stand behind the name of their element: an element starts, a text or a
+// processing instruction comes, or an element ends.
+fn event(alloc: Global, names: &mut Names, line: &str) -> Result<Event, AllocError> {
+    if let Some(list) = line.strip_prefix("(") {
+        return start(alloc, names, list);
+    }
+    if let Some(target) = line.strip_prefix("?") {
+        return Ok(Event::Pi {
+            target: Chars::copy(alloc, target)?,
+            content: Chars::new(alloc),
         });
     }
     match line.strip_prefix("-") {
@@ -206,10 +232,35 @@ const RUN: &[(&str, &str)] = &[
 fn a_template_runs_round_the_children(rt: HostRuntime) -> Result<(), AllocError> {
     let alloc = rt.alloc();
     let mut names = sx_names::new(alloc);
-    let mut session = started(alloc, &mut names)?;
+    let mut session = started(alloc, &mut names, OnNoMatch::TextOnlyCopy, 256)?;
     assert_eq!(rt; differs(alloc, &mut session, &mut names, RUN)?, None);
     assert!(rt; session.finish(&mut names)? == Step::Going);
     assert_eq!(rt; session.state(), State::Closed);
+    Ok(())
+}
+
+// No template matches r and c: they are copied, their attributes in order, as are texts and processing instructions. Beside
+// them the templates run.
+const COPY: &[(&str, &str)] = &[
+    ("(r x y", ""),
+    ("?p", "Ax CDATA x\nAy CDATA y\n(r\n?p\n"),
+    ("(a z", "(out\n-before "),
+    ("-y", "-y"),
+    (")a", "- behind)out\n"),
+    ("(c z", ""),
+    ("(b", "Az CDATA z\n(c\n(in\n-of b)in\n"),
+    ("?q", ""),
+    (")b", ""),
+    (")c", ")c\n"),
+    (")r", ")r\n"),
+];
+
+#[test]
+fn what_no_template_matches_is_copied(rt: HostRuntime) -> Result<(), AllocError> {
+    let alloc = rt.alloc();
+    let mut names = sx_names::new(alloc);
+    let mut session = started(alloc, &mut names, OnNoMatch::ShallowCopy, 256)?;
+    assert_eq!(rt; differs(alloc, &mut session, &mut names, COPY)?, None);
     Ok(())
 }
 
@@ -217,12 +268,25 @@ fn a_template_runs_round_the_children(rt: HostRuntime) -> Result<(), AllocError>
 fn the_257th_open_invocation_is_an_error(rt: HostRuntime) -> Result<(), AllocError> {
     let alloc = rt.alloc();
     let mut names = sx_names::new(alloc);
-    let mut session = started(alloc, &mut names)?;
+    let mut session = started(alloc, &mut names, OnNoMatch::TextOnlyCopy, 256)?;
     for count in 1..258_u32 {
         let step = feed(alloc, &mut session, &mut names, "(r")?;
         let open = count < 256;
         assert!(rt; (step == Step::Going) == open, "{count}");
     }
     assert_eq!(rt; session.state(), State::Stopped(Code::Sxli0001));
+    Ok(())
+}
+
+// The template at an attribute is invoked in that at its element.
+#[test]
+fn an_attribute_is_an_invocation_more(rt: HostRuntime) -> Result<(), AllocError> {
+    let alloc = rt.alloc();
+    for (line, invocations, open) in [("(r", 2, true), ("(r x", 3, true), ("(r x", 2, false)] {
+        let mut names = sx_names::new(alloc);
+        let mut session = started(alloc, &mut names, OnNoMatch::ShallowCopy, invocations)?;
+        let step = feed(alloc, &mut session, &mut names, line)?;
+        assert!(rt; (step == Step::Going) == open, "{line} {invocations}");
+    }
     Ok(())
 }

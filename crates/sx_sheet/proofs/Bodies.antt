@@ -1,10 +1,12 @@
 -- Bodies one behind another.
-use Rattle.std.proofs.Common.{◌≡◌, ℕ, List, [], ◌∷◌, ◌++◌, refl, ap, sym, append_assoc, codes}
+use Rattle.std.proofs.Common.{◌≡◌, ℕ, List, [], ◌∷◌, ◌++◌, refl, ap, sym, append_assoc}
+use Rattle.sx_kinds.specs.declared.constructs.ConstructKind.TheVariants as kind
 use Rattle.sx_kinds.specs.declared.constructs.Instr.{Instr}
 use Rattle.sx_kinds.specs.declared.sheets.Template.{Template}
-use Rattle.sx_sheet.specs.declared.places.Place.{Place}
-use Rattle.sx_sheet.specs.Syntax.{Body, nil, literal, words, apply, TemplateSyntax, lines_of_body, lines_of_templates, said, begins, ends, matches, AllBody, AllTemplates}
-use Rattle.sx_sheet.specs.Numbers.{opened, passed, passed_all, past, instrs_of, literal_instr, text_instr, apply_instr, templates_of, template_of, past_template, past_templates}
+use Rattle.sx_tree.specs.Named.{Name}
+use Rattle.sx_sheet.specs.Tokens.{Token, starts_template, starts_literal, starts_text, starts_apply, ends}
+use Rattle.sx_sheet.specs.Syntax.{Body, nil, literal, words, apply, TemplateSyntax, tokens_of_body, tokens_of_templates, said}
+use Rattle.sx_sheet.specs.Numbers.{Place, opened, passed, passed_all, past, next_construct, instrs_of, literal_with, text_with, apply_with, templates_of, template_of, past_template, past_templates, plain, AllBody, AllTemplates}
 
 abbrev pub join : Body → Body → Body
 join nil c = c
@@ -18,26 +20,20 @@ past-join (literal name b rest) c p = past-join rest c (passed (past (opened p) 
 past-join (words s rest) c p = past-join rest c (passed (passed_all (opened p) (said s)))
 past-join (apply rest) c p = past-join rest c (passed (opened p))
 
-pub instrs-join : (nm : List ℕ → ℕ) (b c : Body) (p : Place) → instrs_of nm p (join b c) ≡ instrs_of nm p b ++ instrs_of nm (past p b) c
-instrs-join nm nil c p = refl
-instrs-join nm (literal name b rest) c p = ap (λ (is : List Instr). literal_instr p (nm name) (instrs_of nm (opened p) b) ∷ is) (instrs-join nm rest c (passed (past (opened p) b)))
-instrs-join nm (words s rest) c p = ap (λ (is : List Instr). text_instr p s ∷ is) (instrs-join nm rest c (passed (passed_all (opened p) (said s))))
-instrs-join nm (apply rest) c p = ap (λ (is : List Instr). apply_instr p ∷ is) (instrs-join nm rest c (passed (opened p)))
+pub front_assoc : (x y : Token) (a b c d : List Token) → d ≡ b ++ c → x ∷ a ++ y ∷ d ≡ (x ∷ a ++ y ∷ b) ++ c
+front_assoc x y a b c d e = rw e (ap (λ (l : List Token). x ∷ l) (sym (append_assoc a (y ∷ b) c)))
 
-pub front_assoc : (x y : List ℕ) (a b c d : List (List ℕ)) → d ≡ b ++ c → x ∷ a ++ y ∷ d ≡ (x ∷ a ++ y ∷ b) ++ c
-front_assoc x y a b c d e = rw e (ap (λ (l : List (List ℕ)). x ∷ l) (sym (append_assoc a (y ∷ b) c)))
+pub tokens-join : (b c : Body) → tokens_of_body (join b c) ≡ tokens_of_body b ++ tokens_of_body c
+tokens-join nil c = refl
+tokens-join (literal name b rest) c = front_assoc (starts_literal name) ends (tokens_of_body b) (tokens_of_body rest) (tokens_of_body c) (tokens_of_body (join rest c)) (tokens-join rest c)
+tokens-join (words s rest) c = front_assoc starts_text ends (said s) (tokens_of_body rest) (tokens_of_body c) (tokens_of_body (join rest c)) (tokens-join rest c)
+tokens-join (apply rest) c = ap (λ (l : List Token). starts_apply ∷ ends ∷ l) (tokens-join rest c)
 
-pub lines-join : (b c : Body) → lines_of_body (join b c) ≡ lines_of_body b ++ lines_of_body c
-lines-join nil c = refl
-lines-join (literal name b rest) c = front_assoc (begins name) (ends name) (lines_of_body b) (lines_of_body rest) (lines_of_body c) (lines_of_body (join rest c)) (lines-join rest c)
-lines-join (words s rest) c = front_assoc (codes "(xsl:text") (codes ")xsl:text") (said s) (lines_of_body rest) (lines_of_body c) (lines_of_body (join rest c)) (lines-join rest c)
-lines-join (apply rest) c = ap (λ (l : List (List ℕ)). codes "(xsl:apply-templates" ∷ codes ")xsl:apply-templates" ∷ l) (lines-join rest c)
-
-pub all-join : (N W : List ℕ → Type 0) (b c : Body) → AllBody N W b → AllBody N W c → AllBody N W (join b c)
-all-join N W nil c g h = h
-all-join N W (literal name b rest) c g h = (g.0, g.1, all-join N W rest c g.2 h)
-all-join N W (words s rest) c g h = (g.0, all-join N W rest c g.1 h)
-all-join N W (apply rest) c g h = all-join N W rest c g h
+pub all-join : (N : Name → Type 0) (b c : Body) → AllBody N b → AllBody N c → AllBody N (join b c)
+all-join N nil c g h = h
+all-join N (literal name b rest) c g h = (g.0, g.1, all-join N rest c g.2 h)
+all-join N (words s rest) c g h = all-join N rest c g h
+all-join N (apply rest) c g h = all-join N rest c g h
 
 -- ---- templates
 
@@ -45,28 +41,38 @@ pub past-snoc : (ts : List TemplateSyntax) (t : TemplateSyntax) (p : Place) → 
 past-snoc [] t p = refl
 past-snoc (s ∷ ts) t p = past-snoc ts t (past_template p s)
 
-pub templates-snoc : (nm : List ℕ → ℕ) (ts : List TemplateSyntax) (t : TemplateSyntax) (p : Place) →
-    templates_of nm p (ts ++ t ∷ []) ≡ templates_of nm p ts ++ template_of nm (past_templates p ts) t ∷ []
-templates-snoc nm [] t p = refl
-templates-snoc nm (s ∷ ts) t p = ap (λ (l : List Template). template_of nm p s ∷ l) (templates-snoc nm ts t (past_template p s))
+pub templates_tokens-snoc : (ts : List TemplateSyntax) (t : TemplateSyntax) →
+    tokens_of_templates (ts ++ t ∷ []) ≡ tokens_of_templates ts ++ (starts_template t.name ∷ tokens_of_body t.body ++ ends ∷ [])
+templates_tokens-snoc [] t = refl
+templates_tokens-snoc (s ∷ ts) t = front_assoc (starts_template s.name) ends (tokens_of_body s.body) (tokens_of_templates ts) _ (tokens_of_templates (ts ++ t ∷ [])) (templates_tokens-snoc ts t)
 
-pub templates_lines-snoc : (ts : List TemplateSyntax) (t : TemplateSyntax) →
-    lines_of_templates (ts ++ t ∷ []) ≡ lines_of_templates ts ++ (matches t.name ∷ codes "(xsl:template" ∷ lines_of_body t.body ++ codes ")xsl:template" ∷ [])
-templates_lines-snoc [] t = refl
-templates_lines-snoc (s ∷ ts) t = ap (λ (l : List (List ℕ)). matches s.name ∷ l) (front_assoc (codes "(xsl:template") (codes ")xsl:template") (lines_of_body s.body) (lines_of_templates ts) _ (lines_of_templates (ts ++ t ∷ [])) (templates_lines-snoc ts t))
-
-pub all-snoc : (N W : List ℕ → Type 0) (ts : List TemplateSyntax) (t : TemplateSyntax) → AllTemplates N W ts → N t.name → AllBody N W t.body → AllTemplates N W (ts ++ t ∷ [])
-all-snoc N W [] t g n b = (n, b, tt)
-all-snoc N W (s ∷ ts) t g n b = (g.0, g.1, all-snoc N W ts t g.2 n b)
+pub all-snoc : (N : Name → Type 0) (ts : List TemplateSyntax) (t : TemplateSyntax) → AllTemplates N ts → N (plain t.name) → AllBody N t.body → AllTemplates N (ts ++ t ∷ [])
+all-snoc N [] t g n b = (n, b, tt)
+all-snoc N (s ∷ ts) t g n b = (g.0, g.1, all-snoc N ts t g.2 n b)
 
 -- ---- what holds of all names holds of each
 
-pub all-body-weaker : (N M W V : List ℕ → Type 0) → ((s : List ℕ) → N s → M s) → ((s : List ℕ) → W s → V s) → (b : Body) → AllBody N W b → AllBody M V b
-all-body-weaker N M W V f g nil a = tt
-all-body-weaker N M W V f g (literal name b rest) a = (f name a.0, all-body-weaker N M W V f g b a.1, all-body-weaker N M W V f g rest a.2)
-all-body-weaker N M W V f g (words s rest) a = (g s a.0, all-body-weaker N M W V f g rest a.1)
-all-body-weaker N M W V f g (apply rest) a = all-body-weaker N M W V f g rest a
+pub all-body-weaker : (N M : Name → Type 0) → ((s : Name) → N s → M s) → (b : Body) → AllBody N b → AllBody M b
+all-body-weaker N M f nil a = tt
+all-body-weaker N M f (literal name b rest) a = (f name a.0, all-body-weaker N M f b a.1, all-body-weaker N M f rest a.2)
+all-body-weaker N M f (words s rest) a = all-body-weaker N M f rest a
+all-body-weaker N M f (apply rest) a = all-body-weaker N M f rest a
 
-pub all-weaker : (N M W V : List ℕ → Type 0) → ((s : List ℕ) → N s → M s) → ((s : List ℕ) → W s → V s) → (ts : List TemplateSyntax) → AllTemplates N W ts → AllTemplates M V ts
-all-weaker N M W V f g [] a = tt
-all-weaker N M W V f g (t ∷ ts) a = (f t.name a.0, all-body-weaker N M W V f g t.body a.1, all-weaker N M W V f g ts a.2)
+pub all-weaker : (N M : Name → Type 0) → ((s : Name) → N s → M s) → (ts : List TemplateSyntax) → AllTemplates N ts → AllTemplates M ts
+all-weaker N M f [] a = tt
+all-weaker N M f (t ∷ ts) a = (f (plain t.name) a.0, all-body-weaker N M f t.body a.1, all-weaker N M f ts a.2)
+
+-- ---- what they make, where tokens have these lines and names these numbers
+
+module _ (lines : List ℕ) (nm : Name → ℕ) where
+  pub instrs-join : (b c : Body) (p : Place) → instrs_of lines nm p (join b c) ≡ instrs_of lines nm p b ++ instrs_of lines nm (past p b) c
+  instrs-join nil c p = refl
+  instrs-join (literal name b rest) c p =
+      ap (λ (is : List Instr). literal_with (next_construct lines p kind.Literal) (nm name) (instrs_of lines nm (opened p) b) ∷ is) (instrs-join rest c (passed (past (opened p) b)))
+  instrs-join (words s rest) c p = ap (λ (is : List Instr). text_with (next_construct lines p kind.Text) s ∷ is) (instrs-join rest c (passed (passed_all (opened p) (said s))))
+  instrs-join (apply rest) c p = ap (λ (is : List Instr). apply_with (next_construct lines p kind.ApplyTemplates) ∷ is) (instrs-join rest c (passed (opened p)))
+
+  pub templates-snoc : (ts : List TemplateSyntax) (t : TemplateSyntax) (p : Place) →
+      templates_of lines nm p (ts ++ t ∷ []) ≡ templates_of lines nm p ts ++ template_of lines nm (past_templates p ts) t ∷ []
+  templates-snoc [] t p = refl
+  templates-snoc (s ∷ ts) t p = ap (λ (l : List Template). template_of lines nm p s ∷ l) (templates-snoc ts t (past_template p s))

@@ -1,198 +1,176 @@
--- A reader that goes on has read one line more of a part.
-use Rattle.std.proofs.Common.{◌≡◌, ℕ, Bool, true, false, List, [], ◌∷◌, ◌++◌, drop, bytes_eq, codes, Option, Some, None, refl, ap, sym, ◌∙◌, append_assoc, append-nil, if◌then◌else◌}
-use Rattle.sx_esis.specs.Lines.{is_name, is_text}
+-- A reader that goes on has read one token more of a part.
+use Rattle.std.proofs.Common.{◌≡◌, ℕ, List, [], ◌∷◌, ◌++◌, Option, Some, None, refl, ap, ◌∙◌, append_assoc, append-nil}
 use Rattle.sx_kinds.specs.declared.constructs.ConstructKind.TheVariants as kind
 use Rattle.sx_kinds.specs.declared.constructs.Instr.{Instr}
+use Rattle.sx_kinds.specs.declared.sheets.OnNoMatch.{OnNoMatch}
 use Rattle.sx_kinds.specs.declared.sheets.Template.{Template}
-use Rattle.sx_sheet.specs.declared.places.Place.{Place}
+use Rattle.sx_tree.specs.Named.{Name}
 use Rattle.sx_sheet.specs.declared.reader.Frame.{Frame}
 use Rattle.sx_sheet.specs.declared.stages.Stage.{Stage}
 use Rattle.sx_sheet.specs.declared.stages.Stage.TheVariants as stage
-use Rattle.sx_sheet.specs.Syntax.{Body, nil, literal, words, apply, TemplateSyntax, lines_of_body, lines_of_templates, head, begins, ends, matches, AllBody, AllTemplates, IsWords}
-use Rattle.sx_sheet.specs.Numbers.{opened, passed, entered, past, instrs_of, past_head, next_construct, templates_of}
+use Rattle.sx_sheet.specs.Tokens.{Token, starts_sheet, starts_mode, starts_template, starts_literal, starts_text, starts_apply, ends, says, closes}
+use Rattle.sx_sheet.specs.Syntax.{Body, nil, literal, words, apply, TemplateSyntax, tokens_of_body, tokens_of_templates}
+use Rattle.sx_sheet.specs.Numbers.{Place, entered, past, past_head, line_at, next_construct, instrs_of, templates_of, plain, AllBody, AllTemplates}
 use Rattle.sx_sheet.specs.Machine as machine
-use Rattle.sx_sheet.specs.Machine.{State, state, step, run, with_number, is_marked, is_said, is_match}
-use Rattle.sx_sheet.proofs.Bodies.{join, past-join, instrs-join, lines-join, all-join, past-snoc, templates-snoc, templates_lines-snoc, all-snoc}
-use Rattle.sx_sheet.proofs.Parts.{Level, level, Inner, Part, h0, h1, h2, h3, h4, h5, h6, h7, between, named, within, texting, texted, applied, ended, conforming, lines_of, inner_lines, outer_lines, says, base, begun, frames, body_start, starting, here, Good, GoodInner, GoodOuter, same, marked, is_saying, matching}
+use Rattle.sx_sheet.specs.Machine.{State, state, step, with_number, template_start, with_literal}
+use Rattle.sx_sheet.proofs.Bodies.{join, past-join, instrs-join, tokens-join, all-join, past-snoc, templates-snoc, templates_tokens-snoc, all-snoc}
+use Rattle.sx_sheet.proofs.Parts.{Level, level, Inner, Part, nothing, begun, moded, between, within, texting, texted, applied, ended, closed, head, tokens_of, inner_tokens, outer_tokens, base, inside_of, body_start, here, frames, starting, read_so_far, shows, Good, GoodInner, GoodOuter}
 
-same_state : (g : Stage) (ts : List Template) (fs : List Frame) (b c : List Instr) (p q : Place) → b ≡ c → p ≡ q → state g ts fs b p ≡ state g ts fs c q
-same_state g ts fs b c p q e f = rw e (rw f refl)
+same_state : (g : Stage) (m : OnNoMatch) (ts : List Template) (fs : List Frame) (b c : List Instr) (p q : Place) → b ≡ c → p ≡ q → state g m ts fs b p ≡ state g m ts fs c q
+same_state g m ts fs b c p q e f = rw e (rw f refl)
 
 -- ---- lists, over variables
 
-pub behind_join : (f o : List (List ℕ)) (a b : List ℕ) (m n p : List (List ℕ)) (w : List (List ℕ)) → n ≡ m ++ p → f ++ a ∷ b ∷ o ++ n ≡ (f ++ a ∷ b ∷ o ++ m) ++ p
-behind_join f o a b m n p w e = rw e (simp append_assoc)
+pub behind_join : (f o : List Token) (a : Token) (m n p : List Token) → n ≡ m ++ p → f ++ a ∷ o ++ n ≡ (f ++ a ∷ o ++ m) ++ p
+behind_join f o a m n p e = rw e (simp append_assoc)
 
-pub close_lines : (f o : List (List ℕ)) (a b c d : List ℕ) (l m n : List (List ℕ)) → n ≡ l ++ (c ∷ m ++ d ∷ []) →
-    f ++ a ∷ b ∷ o ++ n ≡ (f ++ a ∷ b ∷ (o ++ l ++ c ∷ []) ++ m) ++ d ∷ []
-close_lines f o a b c d l m n e = rw e (simp append_assoc)
+pub close_tokens : (f o : List Token) (a c d : Token) (l m n : List Token) → n ≡ l ++ (c ∷ m ++ d ∷ []) →
+    f ++ a ∷ o ++ n ≡ (f ++ a ∷ (o ++ l ++ c ∷ []) ++ m) ++ d ∷ []
+close_tokens f o a c d l m n e = rw e (simp append_assoc)
 
-pub end_lines : (h t : List (List ℕ)) (a b d : List ℕ) (m n : List (List ℕ)) → n ≡ t ++ (a ∷ b ∷ m ++ d ∷ []) → h ++ n ≡ (((h ++ t) ++ (a ∷ b ∷ [])) ++ m) ++ d ∷ []
-end_lines h t a b d m n e = rw e (simp append_assoc)
+pub end_tokens : (h t : List Token) (a d : Token) (m n : List Token) → n ≡ t ++ (a ∷ m ++ d ∷ []) → h ++ n ≡ (((h ++ t) ++ a ∷ []) ++ m) ++ d ∷ []
+end_tokens h t a d m n e = rw e (simp append_assoc)
 
-open_lines : (f o : List (List ℕ)) (a b d : List ℕ) (m : List (List ℕ)) → f ++ a ∷ b ∷ (o ++ m ++ d ∷ []) ++ [] ≡ (f ++ a ∷ b ∷ o ++ m) ++ d ∷ []
-open_lines f o a b d m = simp (append_assoc, append-nil)
+open_tokens : (f o : List Token) (a d : Token) (m : List Token) → f ++ a ∷ (o ++ m ++ d ∷ []) ++ [] ≡ (f ++ a ∷ o ++ m) ++ d ∷ []
+open_tokens f o a d m = simp (append_assoc, append-nil)
 
-pub begin_lines : (f : List (List ℕ)) (a b : List ℕ) → (f ++ a ∷ b ∷ []) ++ [] ≡ (f ++ a ∷ []) ++ b ∷ []
-begin_lines f a b = simp (append_assoc, append-nil)
+pub two_tokens : (i : List Token) (a b : Token) → i ++ a ∷ b ∷ [] ≡ (i ++ a ∷ []) ++ b ∷ []
+two_tokens i a b = simp append_assoc
 
-pub text_lines : (i : List (List ℕ)) (a b : List ℕ) → i ++ a ∷ b ∷ [] ≡ (i ++ a ∷ []) ++ b ∷ []
-text_lines i a b = simp append_assoc
+pub three_tokens : (i : List Token) (a b c : Token) → i ++ a ∷ b ∷ c ∷ [] ≡ ((i ++ a ∷ []) ++ b ∷ []) ++ c ∷ []
+three_tokens i a b c = simp append_assoc
 
-pub said_lines : (i s : List (List ℕ)) (a b c : List ℕ) → s ≡ b ∷ [] → i ++ (a ∷ s ++ c ∷ []) ≡ ((i ++ a ∷ []) ++ b ∷ []) ++ c ∷ []
-said_lines i s a b c e = rw e (simp append_assoc)
-
-module _ (look : List ℕ → Option ℕ) (nm : List ℕ → ℕ) (N : List ℕ → Type 0)
-    (found : (name : List ℕ) (n : ℕ) → look name ≡ Some n → is_name name ≡ true → (nm name ≡ n) × N name) where
-  pub record Next (p : Part) (line : List ℕ) (s : State) : Type 0 where
+module _ (lines : List ℕ) (look : Name → Option ℕ) (nm : Name → ℕ) (N : Name → Type 0) (found : (name : Name) (n : ℕ) → look name ≡ Some n → (nm name ≡ n) × N name) where
+  pub record Next (p : Part) (t : Token) (s : State) : Type 0 where
     pub part : Part
-    pub says : says nm part ≡ s
-    pub lines : lines_of part ≡ lines_of p ++ line ∷ []
+    pub is_shown : shows lines nm part ≡ s
+    pub tokens : tokens_of part ≡ tokens_of p ++ t ∷ []
     pub good : Good N part
 
-  abbrev pub Goes : Part → List ℕ → Option State → Type 0
-  Goes p line None = Unit {0}
-  Goes p line (Some s) = Next p line s
-
-  pick : (p : Part) (line : List ℕ) (b : Bool) (x y : Option State) → (b ≡ true → Goes p line x) → (b ≡ false → Goes p line y) → Goes p line (if b then x else y)
-  pick p line true x y f g = f refl
-  pick p line false x y f g = g refl
-
-  on_line : (p q : Part) (line w : List ℕ) (s : State) → line ≡ w → says nm q ≡ s → lines_of q ≡ lines_of p ++ w ∷ [] → Good N q → Goes p line (Some s)
-  on_line p q line w s e f g h = record { part = q; says = f; lines = g ∙ ap (λ (x : List ℕ). lines_of p ++ x ∷ []) (sym e); good = h }
-
-  fixed_goes : (p q : Part) (line w : List ℕ) (s : State) → says nm q ≡ s → lines_of q ≡ lines_of p ++ w ∷ [] → Good N q → Goes p line (if bytes_eq line w then Some s else None)
-  fixed_goes p q line w s f g h = pick p line (bytes_eq line w) (Some s) None (λ e. on_line p q line w s (same line w e) f g h) (λ e. tt)
+  abbrev pub Goes : Part → Token → Option State → Type 0
+  Goes p t None = Unit {0}
+  Goes p t (Some s) = Next p t s
 
   -- ---- between templates
 
-  match_goes : (ts : List TemplateSyntax) (line : List ℕ) (o : Option ℕ) → look (drop 13 line) ≡ o → line ≡ matches (drop 13 line) → is_name (drop 13 line) ≡ true → AllTemplates N IsWords ts →
-      Goes (between ts) line (with_number o (λ n. state (stage.Template n) (templates_of nm past_head ts) [] [] (passed (base nm ts))))
-  match_goes ts line None e f g h = tt
-  match_goes ts line (Some n) e f g h =
-      let k = found (drop 13 line) n e g in
-      record { part = named ts (drop 13 line); says = ap (λ (m : ℕ). state (stage.Template m) (templates_of nm past_head ts) [] [] (passed (base nm ts))) k.0; lines = ap (λ (x : List ℕ). (head ++ lines_of_templates ts) ++ x ∷ []) (sym f); good = (h, k.1) }
+  template_goes : (m : OnNoMatch) (ts : List TemplateSyntax) (name : List ℕ) (o : Option ℕ) → look (plain name) ≡ o → AllTemplates N ts →
+      Goes (between m ts) (starts_template name)
+      (with_number o (λ n. state (stage.Body (template_start (line_at lines (base ts)) (base ts).constructs n)) m (templates_of lines nm past_head ts) [] [] (entered (base ts))))
+  template_goes m ts name None e h = tt
+  template_goes m ts name (Some n) e h =
+      let k = found (plain name) n e in
+      record {
+        part = within (record { no_match = m; done = ts; name = name; outer = []; body = nil });
+        is_shown = ap (λ (x : ℕ). state (stage.Body (template_start (line_at lines (base ts)) (base ts).constructs x)) m (templates_of lines nm past_head ts) [] [] (entered (base ts))) k.0;
+        tokens = append-nil ((head m ++ tokens_of_templates ts) ++ starts_template name ∷ []);
+        good = (h, k.1, tt, tt);
+      }
 
-  between_goes : (ts : List TemplateSyntax) (line : List ℕ) → AllTemplates N IsWords ts → Goes (between ts) line (machine.between look (says nm (between ts)) line)
-  between_goes ts line h =
-      pick (between ts) line (is_match line) _ _
-      (λ e. match_goes ts line (look (drop 13 line)) refl (matching line e).0 (matching line e).1 h)
-      (λ e. fixed_goes (between ts) (ended ts) line (codes ")xsl:stylesheet") _ refl refl h)
+  between_goes : (m : OnNoMatch) (ts : List TemplateSyntax) (t : Token) → AllTemplates N ts → Goes (between m ts) t (machine.between look (line_at lines (base ts)) (shows lines nm (between m ts)) t)
+  between_goes m ts (starts_template name) h = template_goes m ts name (look (plain name)) refl h
+  between_goes m ts ends h = record { part = ended m ts; is_shown = refl; tokens = refl; good = h }
+  between_goes m ts t h = tt
 
   -- ---- in a body
 
-  inner_of : Inner → List Level → Body → Inner
-  inner_of i outer b = record { done = i.done; name = i.name; outer = outer; body = b }
-
-  start_goes : (i : Inner) (line : List ℕ) (o : Option ℕ) → look (drop 1 line) ≡ o → line ≡ begins (drop 1 line) → is_name (drop 1 line) ≡ true → GoodInner N i →
-      Goes (within i) line (with_number o (λ n. state (stage.Body (starting nm i)) (templates_of nm past_head i.done) (machine.frame (drop 1 line) n (next_construct (here nm i) kind.Literal) (instrs_of nm (body_start nm i) i.body) ∷ frames nm (entered (passed (base nm i.done))) i.outer) [] (opened (here nm i))))
-  start_goes i line None e f g h = tt
-  start_goes i line (Some n) e f g h =
-      let k = found (drop 1 line) n e g in
+  start_goes : (i : Inner) (name : Name) (o : Option ℕ) → look name ≡ o → GoodInner N i →
+      Goes (within i) (starts_literal name) (with_number o (with_literal (line_at lines (here i)) (starting lines nm i) (shows lines nm (within i))))
+  start_goes i name None e h = tt
+  start_goes i name (Some n) e h =
+      let k = found name n e in
       record {
-        part = within (record { done = i.done; name = i.name; outer = level (drop 1 line) i.body ∷ i.outer; body = nil });
-        says = ap (λ (m : ℕ). state (stage.Body (starting nm i)) (templates_of nm past_head i.done) (machine.frame (drop 1 line) m (next_construct (here nm i) kind.Literal) (instrs_of nm (body_start nm i) i.body) ∷ frames nm (entered (passed (base nm i.done))) i.outer) [] (opened (here nm i))) k.0;
-        lines = open_lines (head ++ lines_of_templates i.done) (outer_lines i.outer) (matches i.name) (codes "(xsl:template") (begins (drop 1 line)) (lines_of_body i.body) ∙ ap (λ (x : List ℕ). inner_lines i ++ x ∷ []) (sym f);
+        part = within (record { no_match = i.no_match; done = i.done; name = i.name; outer = level name i.body ∷ i.outer; body = nil });
+        is_shown = ap (with_literal (line_at lines (here i)) (starting lines nm i) (shows lines nm (within i))) k.0;
+        tokens = open_tokens (head i.no_match ++ tokens_of_templates i.done) (outer_tokens i.outer) (starts_template i.name) (starts_literal name) (tokens_of_body i.body);
         good = (h.0, h.1, (k.1, h.3, h.2), tt);
       }
 
-  end_goes : (ts : List TemplateSyntax) (name : List ℕ) (outer : List Level) (b : Body) (line : List ℕ) → line ≡ ends (drop 1 line) → AllTemplates N IsWords ts → N name → GoodOuter N outer → AllBody N IsWords b →
-      let i : Inner = record { done = ts; name = name; outer = outer; body = b } in
-      Goes (within i) line (machine.end_literal (starting nm i) (says nm (within i)) (drop 1 line) (frames nm (entered (passed (base nm ts))) outer))
-  end_goes ts name [] b line f t n o g = tt
-  end_goes ts name (l ∷ ls) b line f t n o g =
-      let i : Inner = record { done = ts; name = name; outer = l ∷ ls; body = b } in
-      let p0 : Place = entered (passed (base nm ts)) in
-      let c : Body = literal l.name b nil in
-      let j : Inner = record { done = ts; name = name; outer = ls; body = join l.before c } in
-      pick (within i) line (bytes_eq (drop 1 line) l.name) _ _
-      (λ e. on_line (within i) (within j) line (ends l.name) _ (f ∙ ap ends (same (drop 1 line) l.name e))
-      (same_state (stage.Body (starting nm i)) (templates_of nm past_head ts) (frames nm p0 ls) _ _ _ _ (instrs-join nm l.before c (begun nm p0 ls)) (past-join l.before c (begun nm p0 ls)))
-      (close_lines (head ++ lines_of_templates ts) (outer_lines ls) (matches name) (codes "(xsl:template") (begins l.name) (ends l.name) (lines_of_body l.before) (lines_of_body b) _ (lines-join l.before c))
-      (t, n, o.2, all-join N IsWords l.before c o.1 (o.0, g, tt)))
-      (λ e. tt)
-
-  template_goes : (ts : List TemplateSyntax) (name : List ℕ) (outer : List Level) (b : Body) (line : List ℕ) → line ≡ codes ")xsl:template" → AllTemplates N IsWords ts → N name → AllBody N IsWords b →
-      let i : Inner = record { done = ts; name = name; outer = outer; body = b } in
-      Goes (within i) line (machine.end_template (starting nm i) (says nm (within i)) (frames nm (entered (passed (base nm ts))) outer))
-  template_goes ts name (l ∷ ls) b line f t n g = tt
-  template_goes ts name [] b line f t n g =
-      let i : Inner = record { done = ts; name = name; outer = []; body = b } in
+  end_goes : (m : OnNoMatch) (ts : List TemplateSyntax) (name : List ℕ) (outer : List Level) (b : Body) → AllTemplates N ts → N (plain name) → GoodOuter N outer → AllBody N b →
+      let i : Inner = record { no_match = m; done = ts; name = name; outer = outer; body = b } in
+      Goes (within i) ends (Some (machine.end_innermost (starting lines nm i) (shows lines nm (within i)) (frames lines nm (entered (base ts)) outer)))
+  end_goes m ts name [] b t n o g =
       let s : TemplateSyntax = record { name = name; body = b } in
-      on_line (within i) (between (ts ++ s ∷ [])) line (codes ")xsl:template") _ f
-      (rw (templates-snoc nm ts s past_head) (rw (past-snoc ts s past_head) refl))
-      (end_lines head (lines_of_templates ts) (matches name) (codes "(xsl:template") (codes ")xsl:template") (lines_of_body b) _ (templates_lines-snoc ts s))
-      (all-snoc N IsWords ts s t n g)
+      record {
+        part = between m (ts ++ s ∷ []);
+        is_shown = rw (templates-snoc lines nm ts s past_head) (rw (past-snoc ts s past_head) refl);
+        tokens = end_tokens (head m) (tokens_of_templates ts) (starts_template name) ends (tokens_of_body b) _ (templates_tokens-snoc ts s);
+        good = all-snoc N ts s t n g;
+      }
+  end_goes m ts name (l ∷ ls) b t n o g =
+      let p0 : Place = entered (base ts) in
+      let c : Body = literal l.name b nil in
+      let i : Inner = record { no_match = m; done = ts; name = name; outer = l ∷ ls; body = b } in
+      record {
+        part = within (record { no_match = m; done = ts; name = name; outer = ls; body = join l.before c });
+        is_shown = same_state (stage.Body (starting lines nm i)) m (templates_of lines nm past_head ts) (frames lines nm p0 ls) _ _ _ _ (instrs-join lines nm l.before c (inside_of p0 ls)) (past-join l.before c (inside_of p0 ls));
+        tokens = close_tokens (head m ++ tokens_of_templates ts) (outer_tokens ls) (starts_template name) (starts_literal l.name) ends (tokens_of_body l.before) (tokens_of_body b) _ (tokens-join l.before c);
+        good = (t, n, o.2, all-join N l.before c o.1 (o.0, g, tt));
+      }
 
-  instruction_goes : (i : Inner) (line : List ℕ) → GoodInner N i → Goes (within i) line (machine.instruction (starting nm i) (says nm (within i)) line)
-  instruction_goes i line h =
-      pick (within i) line (bytes_eq line (codes "(xsl:text")) _ _
-      (λ e. on_line (within i) (texting i) line (codes "(xsl:text") _ (same line (codes "(xsl:text") e) refl refl h)
-      (λ e1. pick (within i) line (bytes_eq line (codes "(xsl:apply-templates")) _ _
-      (λ e. on_line (within i) (applied i) line (codes "(xsl:apply-templates") _ (same line (codes "(xsl:apply-templates") e) refl refl h)
-      (λ e2. pick (within i) line (bytes_eq line (codes ")xsl:template")) _ _
-      (λ e. template_goes i.done i.name i.outer i.body line (same line (codes ")xsl:template") e) h.0 h.1 h.3)
-      (λ e. tt)))
-
-  inside_goes : (i : Inner) (line : List ℕ) → GoodInner N i → Goes (within i) line (machine.inside look (starting nm i) (says nm (within i)) line)
-  inside_goes i line h =
-      pick (within i) line (is_marked 40 line) _ _
-      (λ e. start_goes i line (look (drop 1 line)) refl (marked 40 line e).0 (marked 40 line e).1 h)
-      (λ e1. pick (within i) line (is_marked 41 line) _ _
-      (λ e. end_goes i.done i.name i.outer i.body line (marked 41 line e).0 h.0 h.1 h.2 h.3)
-      (λ e. instruction_goes i line h))
+  inside_goes : (i : Inner) (t : Token) → GoodInner N i → Goes (within i) t (machine.inside look (line_at lines (here i)) (starting lines nm i) (shows lines nm (within i)) t)
+  inside_goes i (starts_literal name) h = start_goes i name (look name) refl h
+  inside_goes i starts_text h = record { part = texting i; is_shown = refl; tokens = refl; good = h }
+  inside_goes i starts_apply h = record { part = applied i; is_shown = refl; tokens = refl; good = h }
+  inside_goes i ends h = end_goes i.no_match i.done i.name i.outer i.body h.0 h.1 h.2 h.3
+  inside_goes i t h = tt
 
   -- ---- in a text and behind it
 
-  abbrev grown : Inner → Body → Inner
-  grown i c = record { done = i.done; name = i.name; outer = i.outer; body = join i.body c }
+  grow_goes : (p : Part) (i : Inner) (c : Body) (t : Token) (is : List Instr) (q : Place) → GoodInner N i → AllBody N c → instrs_of lines nm (here i) c ≡ is → past (here i) c ≡ q →
+      inner_tokens i ++ tokens_of_body c ≡ tokens_of p ++ t ∷ [] →
+      Next p t (state (stage.Body (starting lines nm i)) i.no_match (templates_of lines nm past_head i.done) (frames lines nm (entered (base i.done)) i.outer) (read_so_far lines nm i ++ is) q)
+  grow_goes p i c t is q h a f g k = record {
+    part = within (record { no_match = i.no_match; done = i.done; name = i.name; outer = i.outer; body = join i.body c });
+    is_shown = same_state (stage.Body (starting lines nm i)) i.no_match (templates_of lines nm past_head i.done) (frames lines nm (entered (base i.done)) i.outer) _ _ _ _
+        (instrs-join lines nm i.body c (body_start i) ∙ ap (λ (x : List Instr). read_so_far lines nm i ++ x) f)
+        (past-join i.body c (body_start i) ∙ g);
+    tokens = behind_join (head i.no_match ++ tokens_of_templates i.done) (outer_tokens i.outer) (starts_template i.name) (tokens_of_body i.body) _ (tokens_of_body c) (tokens-join i.body c) ∙ k;
+    good = (h.0, h.1, h.2, all-join N i.body c h.3 a);
+  }
 
-  grow_goes : (p : Part) (i : Inner) (c : Body) (line w : List ℕ) (is : List Instr) (q : Place) → line ≡ w → GoodInner N i → AllBody N IsWords c →
-      instrs_of nm (here nm i) c ≡ is → past (here nm i) c ≡ q → inner_lines i ++ lines_of_body c ≡ lines_of p ++ w ∷ [] →
-      Goes p line (Some (state (stage.Body (starting nm i)) (templates_of nm past_head i.done) (frames nm (entered (passed (base nm i.done))) i.outer) (instrs_of nm (body_start nm i) i.body ++ is) q))
-  grow_goes p i c line w is q e h a f g k =
-      on_line p (within (grown i c)) line w _ e
-      (same_state (stage.Body (starting nm i)) (templates_of nm past_head i.done) (frames nm (entered (passed (base nm i.done))) i.outer) _ _ _ _
-      (instrs-join nm i.body c (body_start nm i) ∙ ap (λ (x : List Instr). instrs_of nm (body_start nm i) i.body ++ x) f)
-      (past-join i.body c (body_start nm i) ∙ g))
-      (behind_join (head ++ lines_of_templates i.done) (outer_lines i.outer) (matches i.name) (codes "(xsl:template") (lines_of_body i.body) _ (lines_of_body c) [] (lines-join i.body c) ∙ k)
-      (h.0, h.1, h.2, all-join N IsWords i.body c h.3 a)
+  text_goes : (i : Inner) (t : Token) → GoodInner N i → Goes (texting i) t (machine.in_text (starting lines nm i) (next_construct lines (here i) kind.Text) (shows lines nm (texting i)) t)
+  text_goes i (says []) h = tt
+  text_goes i (says (c ∷ s)) h = record { part = texted i c s; is_shown = refl; tokens = refl; good = h }
+  text_goes i ends h = grow_goes (texting i) i (words [] nil) ends _ _ h tt refl refl (two_tokens (inner_tokens i) starts_text ends)
+  text_goes i t h = tt
 
-  texting_goes : (i : Inner) (line : List ℕ) → GoodInner N i → Goes (texting i) line (machine.texting (starting nm i) (says nm (texting i)) line)
-  texting_goes i line h =
-      pick (texting i) line (is_said line) _ _
-      (λ e. on_line (texting i) (texted i (drop 1 line)) line (45 ∷ drop 1 line) _ (is_saying line e).0 refl refl (h, (is_saying line e).1))
-      (λ e1. pick (texting i) line (bytes_eq line (codes ")xsl:text")) _ _
-      (λ e. grow_goes (texting i) i (words [] nil) line (codes ")xsl:text") _ _ (same line (codes ")xsl:text") e) h (tt, tt) refl refl (text_lines (inner_lines i) (codes "(xsl:text") (codes ")xsl:text")))
-      (λ e. tt))
+  texted_goes : (i : Inner) (c : ℕ) (s : List ℕ) (t : Token) → GoodInner N i → Goes (texted i c s) t (machine.fixed (stage.TextEnd (starting lines nm i)) (shows lines nm (texted i c s)) t)
+  texted_goes i c s ends h = grow_goes (texted i c s) i (words (c ∷ s) nil) ends _ _ h tt refl refl (three_tokens (inner_tokens i) starts_text (says (c ∷ s)) ends)
+  texted_goes i c s t h = tt
 
-  texted_goes : (i : Inner) (c : ℕ) (s : List ℕ) (line : List ℕ) → GoodInner N i → is_text (c ∷ s) ≡ true → Goes (texted i (c ∷ s)) line (machine.fixed (says nm (texted i (c ∷ s))) line)
-  texted_goes i c s line h t =
-      pick (texted i (c ∷ s)) line (bytes_eq line (codes ")xsl:text")) _ _
-      (λ e. grow_goes (texted i (c ∷ s)) i (words (c ∷ s) nil) line (codes ")xsl:text") _ _ (same line (codes ")xsl:text") e) h (t, tt) refl refl (said_lines (inner_lines i) ((45 ∷ c ∷ s) ∷ []) (codes "(xsl:text") (45 ∷ c ∷ s) (codes ")xsl:text") refl))
-      (λ e. tt)
+  applied_goes : (i : Inner) (t : Token) → GoodInner N i → Goes (applied i) t (machine.fixed (stage.ApplyEnd (starting lines nm i)) (shows lines nm (applied i)) t)
+  applied_goes i ends h = grow_goes (applied i) i (apply nil) ends _ _ h tt refl refl (two_tokens (inner_tokens i) starts_apply ends)
+  applied_goes i t h = tt
 
-  applied_goes : (i : Inner) (line : List ℕ) → GoodInner N i → Goes (applied i) line (machine.fixed (says nm (applied i)) line)
-  applied_goes i line h =
-      pick (applied i) line (bytes_eq line (codes ")xsl:apply-templates")) _ _
-      (λ e. grow_goes (applied i) i (apply nil) line (codes ")xsl:apply-templates") _ _ (same line (codes ")xsl:apply-templates") e) h tt refl refl (text_lines (inner_lines i) (codes "(xsl:apply-templates") (codes ")xsl:apply-templates")))
-      (λ e. tt)
+  -- ---- in front of templates and behind them
 
-  pub goes : (p : Part) (line : List ℕ) → Good N p → Goes p line (step look (says nm p) line)
-  goes h0 line g = fixed_goes h0 h1 line _ _ refl refl tt
-  goes h1 line g = fixed_goes h1 h2 line _ _ refl refl tt
-  goes h2 line g = fixed_goes h2 h3 line _ _ refl refl tt
-  goes h3 line g = fixed_goes h3 h4 line _ _ refl refl tt
-  goes h4 line g = fixed_goes h4 h5 line _ _ refl refl tt
-  goes h5 line g = fixed_goes h5 h6 line _ _ refl refl tt
-  goes h6 line g = fixed_goes h6 h7 line _ _ refl refl tt
-  goes h7 line g = fixed_goes h7 (between []) line _ _ refl refl tt
-  goes (between ts) line g = between_goes ts line g
-  goes (named ts name) line g = fixed_goes (named ts name) (within (record { done = ts; name = name; outer = []; body = nil })) line (codes "(xsl:template") _ refl (begin_lines (head ++ lines_of_templates ts) (matches name) (codes "(xsl:template")) (g.0, g.1, tt, tt)
-  goes (within i) line g = inside_goes i line g
-  goes (texting i) line g = texting_goes i line g
-  goes (texted i []) line g = absurd cc
-  goes (texted i (c ∷ s)) line g = texted_goes i c s line g.0 g.1
-  goes (applied i) line g = applied_goes i line g
-  goes (ended ts) line g = fixed_goes (ended ts) (conforming ts) line _ _ refl refl g
-  goes (conforming ts) line g = tt
+  nothing_goes : (t : Token) → Goes nothing t (machine.fixed stage.Sheet (shows lines nm nothing) t)
+  nothing_goes starts_sheet = record { part = begun; is_shown = refl; tokens = refl; good = tt }
+  nothing_goes t = tt
+
+  begun_goes : (t : Token) → Goes begun t (machine.fixed stage.Mode (shows lines nm begun) t)
+  begun_goes (starts_mode m) = record { part = moded m; is_shown = refl; tokens = refl; good = tt }
+  begun_goes t = tt
+
+  moded_goes : (m : OnNoMatch) (t : Token) → Goes (moded m) t (machine.fixed stage.ModeEnd (shows lines nm (moded m)) t)
+  moded_goes m ends = record { part = between m []; is_shown = refl; tokens = refl; good = tt }
+  moded_goes m t = tt
+
+  ended_goes : (m : OnNoMatch) (ts : List TemplateSyntax) (t : Token) → AllTemplates N ts → Goes (ended m ts) t (machine.fixed stage.Close (shows lines nm (ended m ts)) t)
+  ended_goes m ts closes h = record { part = closed m ts; is_shown = refl; tokens = refl; good = h }
+  ended_goes m ts t h = tt
+
+  closed_goes : (m : OnNoMatch) (ts : List TemplateSyntax) (t : Token) → Goes (closed m ts) t (machine.fixed stage.End (shows lines nm (closed m ts)) t)
+  closed_goes m ts t = tt
+
+  pub goes : (p : Part) (t : Token) → Good N p → Goes p t (step look (line_at lines (shows lines nm p).place) (shows lines nm p) t)
+  goes nothing t g = nothing_goes t
+  goes begun t g = begun_goes t
+  goes (moded m) t g = moded_goes m t
+  goes (between m ts) t g = between_goes m ts t g
+  goes (within i) t g = inside_goes i t g
+  goes (texting i) t g = text_goes i t g
+  goes (texted i c s) t g = texted_goes i c s t g
+  goes (applied i) t g = applied_goes i t g
+  goes (ended m ts) t g = ended_goes m ts t g
+  goes (closed m ts) t g = closed_goes m ts t

@@ -1,8 +1,12 @@
+pub mod Breaks
+pub mod Told
+pub mod Stepping
+pub mod Coming
 pub mod Bodies
 pub mod Parts
 pub mod Goes
-pub mod Cuts
-pub mod Ended
 pub mod Complete
 pub mod Exact
 pub mod Whole
+pub mod Known
+pub mod Closing

@@ -1,8 +1,6 @@
-pub mod Lines
-pub mod Ended
+pub mod Tokens
 pub mod Syntax
 pub mod Numbers
+pub mod Shown
 pub mod Machine
 pub mod Looking
-pub mod Answers
-pub mod Bytes

@@ -1,6 +1,7 @@
 -- The stylesheet that a syntax stands for: its constructs with their numbers and lines.
-use Rattle.std.specs.Prelude.{◌≡◌, ◌<◌, ℕ, ◌+◌, ◌^◌, true, List, [], ◌∷◌, slice_get, Some, None}
+use Rattle.std.specs.Prelude.{◌≡◌, ℕ, ◌+◌, true, List, [], ◌∷◌, slice_get, slice_index_or, Some, None}
 use Rattle.sx_tree.specs.declared.events.Label.{Label}
+use Rattle.sx_tree.specs.Named.{Name}
 use Rattle.sx_kinds.specs.declared.constructs.Construct.{Construct}
 use Rattle.sx_kinds.specs.declared.constructs.ConstructKind.{ConstructKind}
 use Rattle.sx_kinds.specs.declared.constructs.ConstructKind.TheVariants as kind
@@ -10,35 +11,38 @@ use Rattle.sx_kinds.specs.declared.constructs.Instr.{Instr}
 use Rattle.sx_kinds.specs.declared.constructs.Instr.TheViews.{roll-Instr}
 use Rattle.sx_kinds.specs.declared.sheets.Template.{Template}
 use Rattle.sx_kinds.specs.declared.sheets.Mode.{Mode}
-use Rattle.sx_kinds.specs.declared.sheets.OnNoMatch.TheVariants.{TextOnlyCopy}
+use Rattle.sx_kinds.specs.declared.sheets.OnNoMatch.{OnNoMatch}
 use Rattle.sx_kinds.specs.declared.sheets.Sheet.{Sheet}
-use Rattle.sx_sheet.specs.declared.places.Place.{Place}
-use Rattle.sx_sheet.specs.Syntax.{Body, nil, literal, words, apply, TemplateSyntax, SheetSyntax, said, IsThinBy, AllTemplates}
+use Rattle.sx_sheet.specs.Tokens.{Token, LinedToken}
+use Rattle.sx_sheet.specs.Syntax.{Body, nil, literal, words, apply, TemplateSyntax, SheetSyntax, said, tokens_of_sheet, tokens_in, lines_in}
 
--- far from what a number can count
-abbrev pub IsSmall : Place → Type 0
-IsSmall p = (p.constructs < 2 ^ 60) × (p.lines < 2 ^ 60)
+-- ---- places
 
--- behind so many constructs and lines more
-abbrev pub further : ℕ → ℕ → Place → Place
-further constructs lines p = record { constructs = p.constructs + constructs; lines = p.lines + lines }
+-- how many constructs have started, and how many tokens were read
+pub record Place : Type 0 where
+  pub constructs : ℕ
+  pub tokens : ℕ
 
--- behind the line that starts a construct
+-- the same by its parts
+abbrev pub place : ℕ → ℕ → Place
+place c t = record { constructs = c; tokens = t }
+
+-- behind a token that starts a construct
 abbrev pub opened : Place → Place
-opened p = further 1 1 p
+opened p = place (p.constructs + 1) (p.tokens + 1)
 
--- behind a line that starts none
+-- behind a token that starts none
 abbrev pub passed : Place → Place
-passed p = further 0 1 p
+passed p = place p.constructs (p.tokens + 1)
 
--- behind these lines, which start no construct
-abbrev pub passed_all : Place → List (List ℕ) → Place
+-- behind these tokens, which start no construct
+abbrev pub passed_all : Place → List Token → Place
 passed_all p [] = p
-passed_all p (line ∷ lines) = passed_all (passed p) lines
+passed_all p (t ∷ ts) = passed_all (passed p) ts
 
--- behind the line that starts a template, whose pattern is a construct too
+-- behind the start of a template, whose pattern is a construct too
 abbrev pub entered : Place → Place
-entered p = further 2 1 p
+entered p = place (p.constructs + 2) (p.tokens + 1)
 
 -- behind a body
 abbrev pub past : Place → Body → Place
@@ -47,95 +51,120 @@ past p (literal name b rest) = past (passed (past (opened p) b)) rest
 past p (words s rest) = past (passed (passed_all (opened p) (said s))) rest
 past p (apply rest) = past (passed (opened p)) rest
 
--- the construct that starts on the next line
-abbrev pub next_construct : Place → ConstructKind → Construct
-next_construct p k = record { number = p.constructs + 1; line = p.lines + 1; kind = k }
-
--- the name with this number, without a prefix
-abbrev pub label_of : ℕ → Label
-label_of n = record { number = n; prefix = [] }
-
--- a literal element that is this construct, with this content
-abbrev pub literal_with : Construct → ℕ → List Instr → Instr
-literal_with c n b = roll-Instr (record { construct = c; form = form.Literal (label_of n); body = b })
-
--- a literal element with this content
-abbrev pub literal_instr : Place → ℕ → List Instr → Instr
-literal_instr p n b = literal_with (next_construct p kind.Literal) n b
-
--- a text
-abbrev pub text_instr : Place → List ℕ → Instr
-text_instr p s = roll-Instr (record { construct = next_construct p kind.Text; form = form.Text s; body = [] })
-
--- an application of templates
-abbrev pub apply_instr : Place → Instr
-apply_instr p = roll-Instr (record { construct = next_construct p kind.ApplyTemplates; form = form.ApplyTemplates; body = [] })
-
--- the pattern of the template that starts on the next line
-abbrev pub next_pattern : Place → ℕ → Pattern
-next_pattern p n = record { construct = record { number = p.constructs + 2; line = p.lines + 1; kind = kind.Pattern }; name = n }
-
--- a template with a pattern and this body
-abbrev pub template_with : Construct → Pattern → List Instr → Template
-template_with c p b = record { construct = c; pattern = Some p; body = b }
-
--- the template that starts on the next line
-abbrev pub next_template : Place → ℕ → List Instr → Template
-next_template p n b = template_with (next_construct p kind.Template) (next_pattern p n) b
-
-module _ (number : List ℕ → ℕ) where
-  -- the instructions of a body that begins at this place
-  abbrev pub instrs_of : Place → Body → List Instr
-  instrs_of p nil = []
-  instrs_of p (literal name b rest) = literal_instr p (number name) (instrs_of (opened p) b) ∷ instrs_of (passed (past (opened p) b)) rest
-  instrs_of p (words s rest) = text_instr p s ∷ instrs_of (passed (passed_all (opened p) (said s))) rest
-  instrs_of p (apply rest) = apply_instr p ∷ instrs_of (passed (opened p)) rest
-
-  -- the template whose `match` attribute stands on the next line
-  abbrev pub template_of : Place → TemplateSyntax → Template
-  template_of p t = next_template (passed p) (number t.name) (instrs_of (entered (passed p)) t.body)
-
 -- behind a template
 abbrev pub past_template : Place → TemplateSyntax → Place
-past_template p t = passed (past (entered (passed p)) t.body)
+past_template p t = passed (past (entered p) t.body)
 
 -- behind templates
 abbrev pub past_templates : Place → List TemplateSyntax → Place
 past_templates p [] = p
 past_templates p (t ∷ ts) = past_templates (past_template p t) ts
 
-module _ (number : List ℕ → ℕ) where
+-- behind the start of the stylesheet and its mode: three tokens, no construct
+abbrev pub past_head : Place
+past_head = place 0 3
+
+-- ---- constructs
+
+-- the construct that starts on this line behind so many
+abbrev pub construct_on : ℕ → ℕ → ConstructKind → Construct
+construct_on line count k = record { number = count + 1; line = line; kind = k }
+
+-- the pattern of the template that starts on this line behind so many constructs
+abbrev pub pattern_on : ℕ → ℕ → ℕ → Pattern
+pattern_on line count n = record { construct = record { number = count + 2; line = line; kind = kind.Pattern }; name = n }
+
+-- the name with this number, without a prefix
+abbrev pub label_of : ℕ → Label
+label_of n = record { number = n; prefix = [] }
+
+-- a literal element that is this construct, with the name of this number, and this content
+abbrev pub literal_with : Construct → ℕ → List Instr → Instr
+literal_with c n b = roll-Instr (record { construct = c; form = form.Literal (label_of n); body = b })
+
+-- a text that is this construct
+abbrev pub text_with : Construct → List ℕ → Instr
+text_with c s = roll-Instr (record { construct = c; form = form.Text s; body = [] })
+
+-- an application of templates that is this construct
+abbrev pub apply_with : Construct → Instr
+apply_with c = roll-Instr (record { construct = c; form = form.ApplyTemplates; body = [] })
+
+-- a template that is this construct, with this pattern and this body
+abbrev pub template_with : Construct → Pattern → List Instr → Template
+template_with c p b = record { construct = c; pattern = Some p; body = b }
+
+-- a name in no namespace, without a prefix
+abbrev pub plain : List ℕ → Name
+plain local = record { prefix = []; uri = []; local = local }
+
+-- ---- the stylesheet
+
+-- where the tokens have these lines
+module _ (lines : List ℕ) where
+  -- the line of the token at a place
+  abbrev pub line_at : Place → ℕ
+  line_at p = slice_index_or lines p.tokens 0
+
+  -- the construct that starts there
+  abbrev pub next_construct : Place → ConstructKind → Construct
+  next_construct p k = construct_on (line_at p) p.constructs k
+
+-- where the tokens have these lines, and names these numbers
+module _ (lines : List ℕ) (number : Name → ℕ) where
+  -- the instructions of a body that begins at this place
+  abbrev pub instrs_of : Place → Body → List Instr
+  instrs_of p nil = []
+  instrs_of p (literal name b rest) =
+      literal_with (next_construct lines p kind.Literal) (number name) (instrs_of (opened p) b) ∷ instrs_of (passed (past (opened p) b)) rest
+  instrs_of p (words s rest) = text_with (next_construct lines p kind.Text) s ∷ instrs_of (passed (passed_all (opened p) (said s))) rest
+  instrs_of p (apply rest) = apply_with (next_construct lines p kind.ApplyTemplates) ∷ instrs_of (passed (opened p)) rest
+
+  -- the template that begins at this place: it and its pattern are two constructs on one line
+  abbrev pub template_of : Place → TemplateSyntax → Template
+  template_of p t = template_with (next_construct lines p kind.Template) (pattern_on (line_at lines p) p.constructs (number (plain t.name))) (instrs_of (entered p) t.body)
+
   -- the templates that begin at this place
   abbrev pub templates_of : Place → List TemplateSyntax → List Template
   templates_of p [] = []
-  templates_of p (t ∷ ts) = template_of number p t ∷ templates_of (past_template p t) ts
+  templates_of p (t ∷ ts) = template_of p t ∷ templates_of (past_template p t) ts
 
--- behind the head of the stylesheet: eight lines, no construct
-abbrev pub past_head : Place
-past_head = record { constructs = 0; lines = 8 }
+-- the one mode of a thin stylesheet: it is unnamed, declared and streamable
+abbrev pub thin_mode : OnNoMatch → Mode
+thin_mode m = record { name = None; declared = true; streamable = true; no_match = m }
 
--- the one mode of a thin stylesheet
-abbrev pub thin_mode : Mode
-thin_mode = record { name = None; declared = true; streamable = true; no_match = TextOnlyCopy }
+-- a stylesheet with this one mode
+abbrev pub sheet_with : OnNoMatch → List Template → ℕ → Sheet
+sheet_with m templates constructs = record { modes = thin_mode m ∷ []; templates = templates; constructs = constructs }
 
--- a stylesheet with the one mode
-abbrev pub sheet_with : List Template → ℕ → Sheet
-sheet_with templates constructs = record { modes = thin_mode ∷ []; templates = templates; constructs = constructs }
-
--- the stylesheet of the syntax, where names have these numbers
-abbrev pub sheet_of : (List ℕ → ℕ) → SheetSyntax → Sheet
-sheet_of number s = sheet_with (templates_of number past_head s.templates) (past_templates past_head s.templates).constructs
+-- the stylesheet of the syntax, where the tokens have these lines, and names these numbers
+abbrev pub sheet_of : List ℕ → (Name → ℕ) → SheetSyntax → Sheet
+sheet_of lines number s = sheet_with s.no_match (templates_of lines number past_head s.templates) (past_templates past_head s.templates).constructs
 
 -- ---- the numbers of names
 
--- the name in no namespace has its number
-abbrev pub IsKnown : List (List ℕ × List ℕ) → (List ℕ → ℕ) → List ℕ → Type 0
-IsKnown names number name = slice_get names (number name) ≡ Some ([], name)
+-- where this is said of names
+module _ (N : Name → Type 0) where
+  -- it holds of the names of all literal elements
+  abbrev pub AllBody : Body → Type 0
+  AllBody nil = Unit {0}
+  AllBody (literal name b rest) = N name × AllBody b × AllBody rest
+  AllBody (words s rest) = AllBody rest
+  AllBody (apply rest) = AllBody rest
 
--- The stylesheet is that of a syntax whose lines these are, and the table has the numbers of all its names.
-pub record Reads (lines : List (List ℕ)) (names : List (List ℕ × List ℕ)) (sheet : Sheet) : Type 0 where
+  -- it holds of the names that templates match, which are in no namespace, and of those in their bodies
+  abbrev pub AllTemplates : List TemplateSyntax → Type 0
+  AllTemplates [] = Unit {0}
+  AllTemplates (t ∷ ts) = N (plain t.name) × AllBody t.body × AllTemplates ts
+
+-- the table has the name at its number
+abbrev pub HasNumber : List (List ℕ × List ℕ) → (Name → ℕ) → Name → Type 0
+HasNumber names number name = slice_get names (number name) ≡ Some (name.uri, name.local)
+
+-- The stylesheet is that of a syntax whose tokens these are, and the table has the numbers of all its names.
+pub record Reads (lined : List LinedToken) (names : List (List ℕ × List ℕ)) (sheet : Sheet) : Type 0 where
   pub syntax : SheetSyntax
-  pub by : IsThinBy lines syntax
-  pub number : List ℕ → ℕ
-  pub known : AllTemplates (IsKnown names number) (λ s. Unit {0}) syntax.templates
-  pub says : sheet ≡ sheet_of number syntax
+  pub written : tokens_of_sheet syntax ≡ tokens_in lined
+  pub number : Name → ℕ
+  pub known : AllTemplates (HasNumber names number) syntax.templates
+  pub says : sheet ≡ sheet_of (lines_in lined) number syntax

@@ -1,8 +1,25 @@
-// What the definitions come to, as more bytes come.
-ghost use Rattle.std.specs.Prelude.{◌≡◌, ◌++◌, ℕ, List, Bool, true, false};
-ghost use Rattle.sx_sheet.specs.Ended.{is_refused};
+// What the definitions come to.
+ghost use Rattle.std.specs.Prelude.{◌≡◌, ℕ, List};
+ghost use Rattle.std.specs.List.{Contains};
+ghost use Rattle.sx_sheet.specs.Syntax.{IsThin, BreaksBehind, BreaksOn, IsClosed, tokens_in, lines_in};
+ghost use Rattle.sx_sheet.specs.Tokens.{Token, LinedToken};
 
-/// What is refused stays refused, whatever more comes, and where the bytes end.
-pub fn refusal_stays()
-    ensures { (b d : List ℕ) (ended : Bool) → is_refused b false ≡ true → is_refused (b ++ d) ended ≡ true }
+/// What breaks off is no thin stylesheet.
+pub fn broken_or_thin()
+    ensures { (lined : List LinedToken) (line : ℕ) → BreaksOn lined line → IsThin (tokens_in lined) → ⊥ }
+{}
+
+/// What breaks off does so at one place only.
+pub fn one_break()
+    ensures { (tokens : List Token) (a b : ℕ) → BreaksBehind tokens a → BreaksBehind tokens b → a ≡ b }
+{}
+
+/// What breaks off does so on one line only.
+pub fn one_line()
+    ensures { (lined : List LinedToken) (a b : ℕ) → BreaksOn lined a → BreaksOn lined b → a ≡ b }
+{}
+
+/// Where the input has ended, what breaks off does so on the line of one of its tokens.
+pub fn on_a_token()
+    ensures { (lined : List LinedToken) (line : ℕ) → IsClosed (tokens_in lined) → BreaksOn lined line → Contains (lines_in lined) line }
 {}

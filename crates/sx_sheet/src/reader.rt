@@ -1,39 +1,41 @@
-// A reader of thin stylesheets, line by line.
-ghost use Rattle.std.specs.Prelude.{◌≡◌, ◌++◌, ◌∷◌, ◌<◌, ◌^◌, [], List, ℕ, IfOk, IfSome, Option, option_map, drop, reverse, true};
-ghost use Rattle.sx_esis.specs.Lines as lines;
+// A reader of thin stylesheets, token by token.
+ghost use Rattle.std.specs.Prelude.{◌≡◌, ◌+◌, ◌≤◌, ◌<◌, ◌^◌, List, ℕ, IfOk, IfSome, Option, option_map, reverse};
+ghost use Rattle.sx_tree.specs.Named.{Name};
 ghost use Rattle.sx_names.specs.Numbering.{KeepsPlaces};
-ghost use Rattle.sx_sheet.specs.Looking.{Gives, IsNear};
+ghost use Rattle.sx_sheet.specs.Looking.{Gives};
 ghost use Rattle.sx_sheet.specs.Machine as machine;
 ghost use Rattle.sx_sheet.specs.Machine.{state_of};
 ghost use Rattle.sx_sheet.specs.Numbers as numbers;
-ghost use Rattle.sx_sheet.specs.Numbers.{IsSmall};
+ghost use Rattle.sx_sheet.specs.Shown.{shown, IsShown};
 
-use crate::form::{ascii, is_name, is_text};
-use crate::places::Place;
 use crate::stages::{Stage, TemplateStart};
+use crate::tokens::Token;
 use sqlite_items::Items;
 use std::alloc::{AllocError, Global};
-use sx_kinds::{Body, Construct, ConstructKind, Instr, InstrForm, Pattern, Template, Templates};
+use sx_kinds::{
+    Body, Construct, ConstructKind, Instr, InstrForm, OnNoMatch, Pattern, Template, Templates,
+};
 use sx_names::Names;
 use sx_tree::{Chars, Label};
 
-/// An open literal element: its name, that name's number, its construct, and the body in front of it.
+/// An open literal element: the number of its name, its construct, and the body in front of it.
 #[derive(Drop)]
 pub(crate) struct Frame {
-    pub name: Chars,
     pub number: u64,
     pub construct: Construct,
     pub before: Body,
 }
 
-/// What was read: the open elements with the outermost first, and the body of the innermost one so far.
+/// What was read: the open elements with the outermost first, the body of the innermost one so far, and how many constructs
+/// have started.
 #[derive(Drop)]
 pub(crate) struct Reader {
     pub stage: Stage,
+    pub no_match: OnNoMatch,
     pub templates: Templates,
     pub outer: Items<Frame>,
     pub body: Body,
-    pub place: Place,
+    pub constructs: u64,
 }
 
 fn literal(alloc: Global, construct: Construct, number: u64, body: Body) -> Instr
@@ -51,27 +53,22 @@ fn literal(alloc: Global, construct: Construct, number: u64, body: Body) -> Inst
     }
 }
 
-fn apply(alloc: Global, place: Place) -> Instr
-    requires small { IsSmall place }
-    ensures { result ≡ numbers.apply_instr place }
+fn text(alloc: Global, construct: Construct, text: Chars) -> Instr
+    ensures { result ≡ numbers.text_with construct text }
 {
     Instr {
-        construct: place.next_construct(ConstructKind::ApplyTemplates),
-        form: InstrForm::ApplyTemplates,
+        construct,
+        form: InstrForm::Text(text),
         body: Items::new(alloc),
     }
 }
 
-fn text(alloc: Global, place: Place, text: Chars) -> Instr
-    ensures { result ≡ machine.text_here place text }
+fn apply(alloc: Global, construct: Construct) -> Instr
+    ensures { result ≡ numbers.apply_with construct }
 {
     Instr {
-        construct: Construct {
-            number: place.constructs,
-            line: place.lines,
-            kind: ConstructKind::Text,
-        },
-        form: InstrForm::Text(text),
+        construct,
+        form: InstrForm::ApplyTemplates,
         body: Items::new(alloc),
     }
 }
@@ -86,18 +83,29 @@ fn template(start: TemplateStart, body: Body) -> Template
     }
 }
 
-// The template that starts on the next line, and its pattern.
-fn template_start(place: Place, name: u64) -> TemplateStart
-    requires small { IsSmall place }
-    ensures { result ≡ machine.template_start place name }
+// The construct that starts on this line behind so many.
+fn next_construct(count: u64, line: u64, kind: ConstructKind) -> Construct
+    requires { count < 2 ^ 62 }
+    ensures { result ≡ numbers.construct_on line count kind }
 {
-    let construct = place.next_construct(ConstructKind::Template);
+    Construct {
+        number: count + 1,
+        line,
+        kind,
+    }
+}
+
+// The template that starts on this line behind so many constructs, and its pattern.
+fn template_start(count: u64, line: u64, name: u64) -> TemplateStart
+    requires { count < 2 ^ 62 }
+    ensures { result ≡ machine.template_start line count name }
+{
     TemplateStart {
-        construct,
+        construct: next_construct(count, line, ConstructKind::Template),
         pattern: Pattern {
             construct: Construct {
-                number: place.constructs + 2,
-                line: construct.line,
+                number: count + 2,
+                line,
                 kind: ConstructKind::Pattern,
             },
             name,
@@ -105,326 +113,266 @@ fn template_start(place: Place, name: u64) -> TemplateStart
     }
 }
 
-// A line of this mark and a name.
-fn is_marked(mark: u8, line: &[u8]) -> bool
-    ensures { result ≡ machine.is_marked mark line.now }
-{
-    match line {
-        [] => false,
-        [first, name @ ..] => *first == mark && is_name(name),
-    }
-}
-
-// A line of text.
-fn is_said(line: &[u8]) -> bool
-    ensures { result ≡ machine.is_said line.now }
-{
-    match line {
-        [] => false,
-        [first, said @ ..] => *first == b'-' && is_text(said),
-    }
-}
-
-fn is_match(line: &[u8]) -> bool
-    ensures { result ≡ machine.is_match line.now }
-{
-    match line.split_at_checked(13) {
-        None => false,
-        Some((front, name)) => front == b"Amatch CDATA ".as_slice() && is_name(name),
-    }
-}
-
 impl Reader {
-    /// A reader that was given no line.
+    /// A reader that was given no token.
     pub fn new(alloc: Global) -> Reader
-        ensures { state_of result ≡ machine.start }
+        ensures { state_of 0 result ≡ machine.start }
     {
         Reader {
-            stage: Stage::Xsl,
+            stage: Stage::Sheet,
+            no_match: OnNoMatch::TextOnlyCopy,
             templates: Items::new(alloc),
             outer: Items::new(alloc),
             body: Items::new(alloc),
-            place: Place {
-                constructs: 0,
-                lines: 0,
-            },
+            constructs: 0,
         }
     }
 
-    // The same behind a line that starts so many constructs.
-    fn at(self, stage: Stage, constructs: u64) -> Reader
-        requires small { IsSmall self.place }
-        requires more { constructs < 2 ^ 60 }
-        ensures { result ≡ record { stage = stage; templates = self.templates; outer = self.outer; body = self.body; place = numbers.further constructs 1 self.place } }
+    // The same at another stage, with one instruction more in the body.
+    fn with(mut self, stage: Stage, instr: Instr) -> Result<Reader, AllocError>
+        ensures step { IfOk result (λ r. (tokens : ℕ) → state_of (tokens + 1) r ≡ machine.with_instr (state_of tokens self) stage instr) }
+        ensures near { IfOk result (λ r. r.constructs ≡ self.constructs) }
     {
-        Reader {
-            stage,
-            templates: self.templates,
-            outer: self.outer,
-            body: self.body,
-            place: self.place.further(constructs),
-        }
+        self.body.push(instr)?;
+        Ok(Reader { stage, ..self })
     }
 
-    fn fixed(self, line: &[u8]) -> Option<Reader>
-        requires small { IsSmall self.place }
-        ensures step { option_map state_of result ≡ machine.fixed (state_of self) line.now }
-        ensures near { IfSome result (λ n. IsNear self.place n.place) }
+    // A token at a stage that expects but one.
+    fn fixed(self, token: Token<'_>) -> Option<Reader>
+        ensures step { (names : List (List ℕ × List ℕ)) (tokens : ℕ) → option_map (state_of (tokens + 1)) result ≡ machine.fixed self.stage (state_of tokens self) (shown names token.entry) }
+        ensures near { IfSome result (λ r. r.constructs ≤ self.constructs + 2) }
     {
-        if line == self.stage.line() {
-            let next = self.stage.next();
-            return Some(self.at(next, 0));
+        match (self.stage, token) {
+            (Stage::Sheet, Token::StartsSheet) => Some(Reader {
+                stage: Stage::Mode,
+                ..self
+            }),
+            (Stage::Mode, Token::StartsMode(no_match)) => Some(Reader {
+                stage: Stage::ModeEnd,
+                no_match,
+                ..self
+            }),
+            (Stage::ModeEnd, Token::Ends) => Some(Reader {
+                stage: Stage::Templates,
+                ..self
+            }),
+            (Stage::TextEnd(template), Token::Ends) => Some(Reader {
+                stage: Stage::Body(template),
+                ..self
+            }),
+            (Stage::ApplyEnd(template), Token::Ends) => Some(Reader {
+                stage: Stage::Body(template),
+                ..self
+            }),
+            (Stage::Close, Token::Closes) => Some(Reader {
+                stage: Stage::End,
+                ..self
+            }),
+            _ => None,
         }
-        None
     }
 
-    fn between(self, names: &mut Names, line: &[u8]) -> Result<Option<Reader>, AllocError>
-        requires small { IsSmall self.place }
+    // A template starts, or the stylesheet ends.
+    fn between(
+        self,
+        names: &mut Names,
+        token: Token<'_>,
+        line: u64,
+    ) -> Result<Option<Reader>, AllocError>
+        requires { self.constructs < 2 ^ 62 }
         ensures kept { KeepsPlaces names.old names.new }
-        ensures step { IfOk result (λ r. (look : List ℕ → Option ℕ) → Gives names.new look → option_map state_of r ≡ machine.between look (state_of self) line.now) }
-        ensures near { IfOk result (λ r. IfSome r (λ n. IsNear self.place n.place)) }
+        ensures step { IfOk result (λ r. (look : Name → Option ℕ) (tokens : ℕ) → Gives names.new look → option_map (state_of (tokens + 1)) r ≡ machine.between look line (state_of tokens self) (shown names.old token.entry)) }
+        ensures near { IfOk result (λ r. IfSome r (λ n. n.constructs ≤ self.constructs + 2)) }
     {
-        if is_match(line) {
-            let name = names.intern("", ascii(&line[13..]))?;
-            return Ok(Some(self.at(Stage::Template(name), 0)));
+        match token {
+            Token::StartsTemplate(name) => {
+                let name = names.intern("", name)?;
+                let start = template_start(self.constructs, line, name);
+                Ok(Some(Reader {
+                    stage: Stage::Body(start),
+                    constructs: self.constructs + 2,
+                    ..self
+                }))
+            }
+            Token::Ends => Ok(Some(Reader {
+                stage: Stage::Close,
+                ..self
+            })),
+            _ => Ok(None),
         }
-        if line == b")xsl:stylesheet".as_slice() {
-            return Ok(Some(self.at(Stage::Conforms, 0)));
-        }
-        Ok(None)
-    }
-
-    fn named(self, name: u64, line: &[u8]) -> Option<Reader>
-        requires small { IsSmall self.place }
-        ensures step { option_map state_of result ≡ machine.named name (state_of self) line.now }
-        ensures near { IfSome result (λ n. IsNear self.place n.place) }
-    {
-        if line == b"(xsl:template".as_slice() {
-            let start = template_start(self.place, name);
-            return Some(self.at(Stage::Body(start), 2));
-        }
-        None
     }
 
     fn start_literal(
         self,
         alloc: Global,
-        names: &mut Names,
         template: TemplateStart,
-        name: &[u8],
+        number: u64,
+        line: u64,
     ) -> Result<Reader, AllocError>
-        requires small { IsSmall self.place }
-        requires named { lines.is_name name.now ≡ true }
-        ensures kept { KeepsPlaces names.old names.new }
-        ensures step { IfOk result (λ r. (look : List ℕ → Option ℕ) → Gives names.new look → option_map state_of (Some r) ≡ machine.start_literal look template (state_of self) name.now) }
-        ensures near { IfOk result (λ n. IsNear self.place n.place) }
+        requires { self.constructs < 2 ^ 62 }
+        ensures step { IfOk result (λ r. (tokens : ℕ) → state_of (tokens + 1) r ≡ machine.with_literal line template (state_of tokens self) number) }
+        ensures near { IfOk result (λ r. r.constructs ≤ self.constructs + 2) }
     {
-        let name = ascii(name);
-        let number = names.intern("", name)?;
-        let Reader {
-            stage: _,
-            templates,
-            mut outer,
-            body,
-            place,
-        } = self;
+        let mut outer = self.outer;
         outer.push(Frame {
-            name: Chars::copy(alloc, name)?,
             number,
-            construct: place.next_construct(ConstructKind::Literal),
-            before: body,
+            construct: next_construct(self.constructs, line, ConstructKind::Literal),
+            before: self.body,
         })?;
         Ok(Reader {
             stage: Stage::Body(template),
-            templates,
+            no_match: self.no_match,
+            templates: self.templates,
             outer,
             body: Items::new(alloc),
-            place: place.further(1),
+            constructs: self.constructs + 1,
         })
     }
 
-    fn end_literal(
-        self,
-        alloc: Global,
-        template: TemplateStart,
-        name: &[u8],
-    ) -> Result<Option<Reader>, AllocError>
-        requires small { IsSmall self.place }
-        ensures step { IfOk result (λ r. option_map state_of r ≡ machine.end_literal template (state_of self) name.now (reverse self.outer)) }
-        ensures near { IfOk result (λ r. IfSome r (λ n. IsNear self.place n.place)) }
-    {
-        let Reader {
-            stage: _,
-            templates,
-            mut outer,
-            body,
-            place,
-        } = self;
-        let Some(
-            Frame {
-                name: started,
-                number,
-                construct,
-                mut before,
-            },
-        ) = outer.pop()
-        else {
-            return Ok(None);
-        };
-        if name != started.as_str().as_bytes() {
-            return Ok(None);
-        }
-        before.push(literal(alloc, construct, number, body))?;
-        Ok(Some(Reader {
-            stage: Stage::Body(template),
-            templates,
-            outer,
-            body: before,
-            place: place.further(0),
-        }))
-    }
-
-    fn end_template(
+    // The innermost literal element ends, or the template where none is open.
+    fn end_innermost(
         self,
         alloc: Global,
         template_start: TemplateStart,
-    ) -> Result<Option<Reader>, AllocError>
-        requires small { IsSmall self.place }
-        ensures step { IfOk result (λ r. option_map state_of r ≡ machine.end_template template_start (state_of self) (reverse self.outer)) }
-        ensures near { IfOk result (λ r. IfSome r (λ n. IsNear self.place n.place)) }
+    ) -> Result<Reader, AllocError>
+        ensures step { IfOk result (λ r. (tokens : ℕ) → state_of (tokens + 1) r ≡ machine.end_innermost template_start (state_of tokens self) (reverse self.outer)) }
+        ensures near { IfOk result (λ r. r.constructs ≡ self.constructs) }
     {
-        if !self.outer.is_empty() {
-            return Ok(None);
+        let mut outer = self.outer;
+        let mut templates = self.templates;
+        match outer.pop() {
+            None => {
+                templates.push(template(template_start, self.body))?;
+                Ok(Reader {
+                    stage: Stage::Templates,
+                    no_match: self.no_match,
+                    templates,
+                    outer,
+                    body: Items::new(alloc),
+                    constructs: self.constructs,
+                })
+            }
+            Some(
+                Frame {
+                    number,
+                    construct,
+                    mut before,
+                },
+            ) => {
+                before.push(literal(alloc, construct, number, self.body))?;
+                Ok(Reader {
+                    stage: Stage::Body(template_start),
+                    no_match: self.no_match,
+                    templates,
+                    outer,
+                    body: before,
+                    constructs: self.constructs,
+                })
+            }
         }
-        let Reader {
-            stage: _,
-            mut templates,
-            outer: _,
-            body,
-            place,
-        } = self;
-        templates.push(template(template_start, body))?;
-        Ok(Some(Reader {
-            stage: Stage::Templates,
-            templates,
-            outer: Items::new(alloc),
-            body: Items::new(alloc),
-            place: place.further(0),
-        }))
     }
 
-    // With one instruction more, behind a line that starts so many constructs.
-    fn with(self, stage: Stage, instr: Instr, constructs: u64) -> Result<Reader, AllocError>
-        requires small { IsSmall self.place }
-        requires more { constructs < 2 ^ 60 }
-        ensures { IfOk result (λ r. r ≡ record { stage = stage; templates = self.templates; outer = self.outer; body = self.body ++ instr ∷ []; place = numbers.further constructs 1 self.place }) }
-    {
-        let Reader {
-            stage: _,
-            templates,
-            outer,
-            mut body,
-            place,
-        } = self;
-        body.push(instr)?;
-        Ok(Reader {
-            stage,
-            templates,
-            outer,
-            body,
-            place: place.further(constructs),
-        })
-    }
-
-    fn instruction(
-        self,
-        alloc: Global,
-        template: TemplateStart,
-        line: &[u8],
-    ) -> Result<Option<Reader>, AllocError>
-        requires small { IsSmall self.place }
-        ensures step { IfOk result (λ r. option_map state_of r ≡ machine.instruction template (state_of self) line.now) }
-        ensures near { IfOk result (λ r. IfSome r (λ n. IsNear self.place n.place)) }
-    {
-        if line == b"(xsl:text".as_slice() {
-            return Ok(Some(self.at(Stage::Text(template), 1)));
-        }
-        if line == b"(xsl:apply-templates".as_slice() {
-            let instr = apply(alloc, self.place);
-            let next = self.with(Stage::ApplyEnd(template), instr, 1)?;
-            return Ok(Some(next));
-        }
-        if line == b")xsl:template".as_slice() {
-            return self.end_template(alloc, template);
-        }
-        Ok(None)
-    }
-
+    // In a body an instruction starts, or the innermost element ends.
     fn inside(
         self,
         alloc: Global,
-        names: &mut Names,
         template: TemplateStart,
-        line: &[u8],
+        token: Token<'_>,
+        line: u64,
     ) -> Result<Option<Reader>, AllocError>
-        requires small { IsSmall self.place }
-        ensures kept { KeepsPlaces names.old names.new }
-        ensures step { IfOk result (λ r. (look : List ℕ → Option ℕ) → Gives names.new look → option_map state_of r ≡ machine.inside look template (state_of self) line.now) }
-        ensures near { IfOk result (λ r. IfSome r (λ n. IsNear self.place n.place)) }
+        requires { self.constructs < 2 ^ 62 }
+        ensures step { IfOk result (λ r. (names : List (List ℕ × List ℕ)) (look : Name → Option ℕ) (tokens : ℕ) → IsShown names token.entry → Gives names look → option_map (state_of (tokens + 1)) r ≡ machine.inside look line template (state_of tokens self) (shown names token.entry)) }
+        ensures near { IfOk result (λ r. IfSome r (λ n. n.constructs ≤ self.constructs + 2)) }
     {
-        if is_marked(b'(', line) {
-            let next = self.start_literal(alloc, names, template, &line[1..])?;
-            return Ok(Some(next));
+        match token {
+            Token::StartsLiteral(number) => {
+                let next = self.start_literal(alloc, template, number, line)?;
+                Ok(Some(next))
+            }
+            Token::StartsText => {
+                let construct = next_construct(self.constructs, line, ConstructKind::Text);
+                Ok(Some(Reader {
+                    stage: Stage::Text(template, construct),
+                    constructs: self.constructs + 1,
+                    ..self
+                }))
+            }
+            Token::StartsApply => {
+                let next = self.start_apply(alloc, template, line)?;
+                Ok(Some(next))
+            }
+            Token::Ends => {
+                let next = self.end_innermost(alloc, template)?;
+                Ok(Some(next))
+            }
+            _ => Ok(None),
         }
-        if is_marked(b')', line) {
-            return self.end_literal(alloc, template, &line[1..]);
-        }
-        self.instruction(alloc, template, line)
     }
 
-    fn texting(
+    fn start_apply(
+        mut self,
+        alloc: Global,
+        template: TemplateStart,
+        line: u64,
+    ) -> Result<Reader, AllocError>
+        requires { self.constructs < 2 ^ 62 }
+        ensures step { IfOk result (λ r. (tokens : ℕ) → state_of (tokens + 1) r ≡ machine.with_apply line template (state_of tokens self)) }
+        ensures near { IfOk result (λ r. r.constructs ≤ self.constructs + 2) }
+    {
+        let construct = next_construct(self.constructs, line, ConstructKind::ApplyTemplates);
+        self.body.push(apply(alloc, construct))?;
+        Ok(Reader {
+            stage: Stage::ApplyEnd(template),
+            constructs: self.constructs + 1,
+            ..self
+        })
+    }
+
+    // What this `xsl:text` says, or its end.
+    fn in_text(
         self,
         alloc: Global,
         template: TemplateStart,
-        line: &[u8],
+        construct: Construct,
+        token: Token<'_>,
     ) -> Result<Option<Reader>, AllocError>
-        requires small { IsSmall self.place }
-        ensures step { IfOk result (λ r. option_map state_of r ≡ machine.texting template (state_of self) line.now) }
-        ensures near { IfOk result (λ r. IfSome r (λ n. IsNear self.place n.place)) }
+        ensures step { IfOk result (λ r. (names : List (List ℕ × List ℕ)) (tokens : ℕ) → option_map (state_of (tokens + 1)) r ≡ machine.in_text template construct (state_of tokens self) (shown names token.entry)) }
+        ensures near { IfOk result (λ r. IfSome r (λ n. n.constructs ≤ self.constructs + 2)) }
     {
-        let place = self.place;
-        if is_said(line) {
-            let said = Chars::copy(alloc, ascii(&line[1..]))?;
-            let next = self.with(Stage::TextEnd(template), text(alloc, place, said), 0)?;
-            return Ok(Some(next));
+        match token {
+            Token::Says(said) if !said.is_empty() => {
+                let said = Chars::copy(alloc, said)?;
+                let next = self.with(Stage::TextEnd(template), text(alloc, construct, said))?;
+                Ok(Some(next))
+            }
+            Token::Ends => {
+                let empty = text(alloc, construct, Chars::new(alloc));
+                let next = self.with(Stage::Body(template), empty)?;
+                Ok(Some(next))
+            }
+            _ => Ok(None),
         }
-        if line == b")xsl:text".as_slice() {
-            let instr = text(alloc, place, Chars::new(alloc));
-            let next = self.with(Stage::Body(template), instr, 0)?;
-            return Ok(Some(next));
-        }
-        Ok(None)
     }
 
-    /// Takes one line more, or gives `None` where it may not stand there.
+    /// Takes one token more, which is on this line, or gives `None` where it may not stand there.
     pub fn step(
         self,
         alloc: Global,
         names: &mut Names,
-        line: &[u8],
+        token: Token<'_>,
+        line: u64,
     ) -> Result<Option<Reader>, AllocError>
-        requires small { IsSmall self.place }
+        requires small { self.constructs < 2 ^ 62 }
+        requires known { IsShown names.old token }
         ensures kept { KeepsPlaces names.old names.new }
-        ensures step { IfOk result (λ r. (look : List ℕ → Option ℕ) → Gives names.new look → option_map state_of r ≡ machine.step look (state_of self) line.now) }
-        ensures near { IfOk result (λ r. IfSome r (λ n. IsNear self.place n.place)) }
+        ensures step { IfOk result (λ r. (look : Name → Option ℕ) (tokens : ℕ) → Gives names.new look → option_map (state_of (tokens + 1)) r ≡ machine.step look line (state_of tokens self) (shown names.old token.entry)) }
+        ensures near { IfOk result (λ r. IfSome r (λ n. n.constructs ≤ self.constructs + 2)) }
     {
         match self.stage {
-            Stage::Templates => self.between(names, line),
-            Stage::Template(name) => Ok(self.named(name, line)),
-            Stage::Body(template) => self.inside(alloc, names, template, line),
-            Stage::Text(template) => self.texting(alloc, template, line),
-            Stage::End => Ok(None),
-            _ => Ok(self.fixed(line)),
+            Stage::Templates => self.between(names, token, line),
+            Stage::Body(template) => self.inside(alloc, template, token, line),
+            Stage::Text(template, construct) => self.in_text(alloc, template, construct, token),
+            _ => Ok(self.fixed(token)),
         }
     }
 }

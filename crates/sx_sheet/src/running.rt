@@ -1,39 +1,41 @@
-// Reads all lines.
-ghost use Rattle.std.specs.Prelude.{◌≡◌, ◌<◌, ◌^◌, List, ℕ, Option, IfOk, length};
+// Reads all events.
+ghost use Rattle.std.specs.Prelude.{IfOk};
 ghost use Rattle.sx_names.specs.Numbering.{KeepsPlaces};
-ghost use Rattle.sx_sheet.specs.Lines.{lines_in};
-ghost use Rattle.sx_sheet.specs.Looking.{Gives, course, course_of};
-ghost use Rattle.sx_sheet.specs.Machine as machine;
+ghost use Rattle.sx_sheet.specs.Looking.{Results};
+ghost use Rattle.sx_sheet.specs.Tokens.{AreKnown};
 
-use crate::lines::split_line;
 use crate::reader::Reader;
+use crate::reading::LinedEvents;
+use crate::tokens::token_of;
 use std::alloc::{AllocError, Global};
 use sx_names::Names;
 
-/// The reader behind all lines, or the number of the line at which it stops.
+/// The reader behind all events, or the line of the one at which it stops, or 0 where one is missing.
 pub(crate) fn run(
     alloc: Global,
-    bytes: &[u8],
+    events: &LinedEvents,
     names: &mut Names,
 ) -> Result<Result<Reader, u64>, AllocError>
-    requires small { length bytes.now < 2 ^ 32 }
     ensures kept { KeepsPlaces names.old names.new }
-    ensures course { IfOk result (λ r. (look : List ℕ → Option ℕ) → Gives names.new look → course_of r ≡ course look machine.start 0 (lines_in bytes.now)) }
+    ensures results { IfOk result (λ r. AreKnown names.old events.now → Results names.old names.new events.now r) }
 {
     let mut reader = Reader::new(alloc);
-    let mut rest = bytes;
-    let mut count = 0;
-    while !rest.is_empty() {
-        let (line, next) = split_line(rest);
-        count += 1;
-        match reader.step(alloc, names, line)? {
-            None => return Ok(Err(count)),
-            Some(further) => reader = further,
+    let mut in_text = false;
+    for lined in events.as_slice() {
+        let Some(token) = token_of(&lined.event, names) else {
+            continue;
+        };
+        if token.is_skipped(in_text) {
+            continue;
         }
-        rest = next;
+        in_text = token.is_in_text(in_text);
+        match reader.step(alloc, names, token, lined.line)? {
+            None => return Ok(Err(lined.line)),
+            Some(next) => reader = next,
+        }
     }
     if reader.stage.is_last() {
         return Ok(Ok(reader));
     }
-    Ok(Err(count + 1))
+    Ok(Err(0))
 }

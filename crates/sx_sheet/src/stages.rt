@@ -11,80 +11,33 @@ pub(crate) struct TemplateStart {
     pub pattern: Pattern,
 }
 
-/// Which line comes next: most stages have one line.
+/// What comes next.
 #[derive(Clone, Copy)]
 pub(crate) enum Stage {
-    Xsl,
-    Xs,
-    Version,
-    Stylesheet,
-    Streamable,
-    NoMatch,
+    /// the start of the stylesheet
+    Sheet,
+    /// the start of its mode
     Mode,
     ModeEnd,
     /// a template, or the end of the stylesheet
     Templates,
-    /// the start of a template with this match
-    Template(u64),
+    /// an instruction, or the end of the innermost literal element or of the template
     Body(TemplateStart),
-    /// a text, or the end of an `xsl:text`
-    Text(TemplateStart),
+    /// what this `xsl:text` says, or its end
+    Text(TemplateStart, Construct),
     TextEnd(TemplateStart),
     ApplyEnd(TemplateStart),
-    Conforms,
-    /// none
+    /// the end of the input
+    Close,
+    /// nothing
     End,
 }
 
 impl Stage {
-    /// The one line of the stage.
-    pub fn line(self) -> &'static [u8]
-        ensures { result.now ≡ machine.line_at self }
-    {
-        match self {
-            Stage::Xsl => b"Axmlns:xsl CDATA http://www.w3.org/1999/XSL/Transform",
-            Stage::Xs => b"Axmlns:xs CDATA http://www.w3.org/2001/XMLSchema",
-            Stage::Version => b"Aversion CDATA 3.0",
-            Stage::Stylesheet => b"(xsl:stylesheet",
-            Stage::Streamable => b"Astreamable CDATA yes",
-            Stage::NoMatch => b"Aon-no-match CDATA text-only-copy",
-            Stage::Mode => b"(xsl:mode",
-            Stage::ModeEnd => b")xsl:mode",
-            Stage::TextEnd(_) => b")xsl:text",
-            Stage::ApplyEnd(_) => b")xsl:apply-templates",
-            Stage::Conforms => b"C",
-            Stage::Templates | Stage::Template(_) | Stage::Body(_) | Stage::Text(_) | Stage::End =>
-                b"",
-        }
-    }
-
-    /// The stage behind that line.
-    pub fn next(self) -> Stage
-        ensures { result ≡ machine.behind self }
-    {
-        match self {
-            Stage::Xsl => Stage::Xs,
-            Stage::Xs => Stage::Version,
-            Stage::Version => Stage::Stylesheet,
-            Stage::Stylesheet => Stage::Streamable,
-            Stage::Streamable => Stage::NoMatch,
-            Stage::NoMatch => Stage::Mode,
-            Stage::Mode => Stage::ModeEnd,
-            Stage::ModeEnd => Stage::Templates,
-            Stage::TextEnd(template) | Stage::ApplyEnd(template) => Stage::Body(template),
-            Stage::Templates
-            | Stage::Template(_)
-            | Stage::Body(_)
-            | Stage::Text(_)
-            | Stage::Conforms
-            | Stage::End => Stage::End,
-        }
-    }
-
-    /// Whether the stylesheet may end here.
+    /// Whether nothing is left to be read.
     pub fn is_last(self) -> bool
         ensures { result ≡ machine.is_last self }
     {
-        matches!(self, Stage::Conforms | Stage::End)
+        matches!(self, Stage::End)
     }
 }

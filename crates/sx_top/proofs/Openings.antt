@@ -1,32 +1,16 @@
 -- How many files a call opens.
-use Rattle.std.proofs.Common.{◌≡◌, inl, inr, ℕ, ◌+◌, ◌<◌, ◌≤◌, Bool, List, [], length, Option, Some, None, refl, ap, arith}
+use Rattle.std.proofs.Common.{◌≡◌, inl, inr, ℕ, ◌+◌, ◌<◌, ◌≤◌, [], length, Option, Some, None, ap, arith}
 use Rattle.sx_desk.specs.Desk.{Seen}
 use Rattle.sx_top.specs.Commands.{Runs}
+use Rattle.sx_events.specs.Limits.{stated}
+use Rattle.sx_reading.specs.Headline.{nothing_written}
+use Rattle.sx_transform.specs.Run.{run_written, run_outcome}
+use Rattle.sx_transform.specs.Stylesheet.{sheet_outcome}
 use Rattle.sx_top.specs.Copy.{copy_written, copy_outcome}
-use Rattle.sx_events.specs.Form.{stated}
-use Rattle.sx_top.specs.Program.{Headline}
-use Rattle.sx_top.specs.Run.{run_written, run_outcome}
-use Rattle.sx_top.specs.Stylesheet.{nothing_written, sheet_outcome}
 use Rattle.sx_top.specs.Words.{Asked, copies, runs}
-use Rattle.sx_top.specs.declared.consumer.Outcome.{Outcome}
-use Rattle.sx_top.specs.declared.status.Status.{Status}
-use Rattle.sx_top.specs.declared.status.Status.TheVariants as status
-
-module _ (written : List ℕ → Bool → List ℕ) (outcome : List ℕ → Bool → Option Outcome) (name : List ℕ) (old new : Seen) where
-  one_more : length new.opened ≡ length old.opened + 1 → length new.opened ≤ length old.opened + 1
-  one_more e = omega (arith, e)
-
-  -- a run opens one file at most
-  opens_one : (s : Status) → Headline written outcome name old new s → length new.opened ≤ length old.opened + 1
-  opens_one status.Ok run = one_more (run.count.0 (λ e. cc))
-  opens_one status.Usage run = one_more (run.count.0 (λ e. cc))
-  opens_one (status.Static c l) run = one_more (run.count.0 (λ e. cc))
-  opens_one (status.Dynamic c) run = one_more (run.count.0 (λ e. cc))
-  opens_one (status.Refused i) run = one_more (run.count.0 (λ e. cc))
-  opens_one status.OpenFault run = let e = run.count.1 refl in omega (arith, e)
-  opens_one status.ReadFault run = one_more (run.count.0 (λ e. cc))
-  opens_one status.WriteFault run = one_more (run.count.0 (λ e. cc))
-  opens_one status.OutOfMemory run = one_more (run.count.0 (λ e. cc))
+use Rattle.sx_reading.specs.declared.status.Status.{Status}
+use Rattle.sx_reading.specs.declared.status.Status.TheVariants as status
+use Rattle.sx_reading.proofs.Headlines.{opens_one}
 
 two_more : (a b c : ℕ) → b ≤ a + 1 → c ≤ b + 1 → c ≤ a + 2
 two_more a b c p q = omega (arith, p, q)
@@ -37,7 +21,7 @@ two_at_most a b p = omega (arith, p)
 -- a call opens two files at most
 opens_two : (o : Option Asked) (old new : Seen) (s : Status) → Runs o old new s → length new.opened ≤ length old.opened + 2
 opens_two None old new s x = let e = x.1.count in omega (arith, e)
-opens_two (Some (copies d)) old new s x = two_at_most (length old.opened) (length new.opened) (opens_one (copy_written stated) (copy_outcome stated) d old new s x)
+opens_two (Some (copies d)) old new s x = two_at_most (length old.opened) (length new.opened) (opens_one copy_written copy_outcome d old new s x)
 opens_two (Some (runs n d)) old new s (inl (inl x)) = two_at_most (length old.opened) (length new.opened) (opens_one nothing_written sheet_outcome n old new s x.run)
 opens_two (Some (runs n d)) old new s (inl (inr x)) = two_at_most (length old.opened) (length new.opened) (opens_one nothing_written sheet_outcome n old new status.Ok x.read.run)
 opens_two (Some (runs n d)) old new s (inr x) = two_more (length old.opened) (length x.mid.opened) (length new.opened)

@@ -1,235 +1,37 @@
--- A call of the program, from the opening of its file to the diagnostic line.
-use Rattle.std.proofs.Common.{◌≡◌, ◌≢◌, ◌⊎◌, inl, inr, ℕ, suc, ◌+◌, ◌<◌, ◌≤◌, Bool, IsTrue, List, [], ◌∷◌, ◌++◌, length, take, slice_get, Option, Some, None, option_and_then, unwrap_or, Result, Ok, Err, OnOk, OnErr, ◌↔◌, refl, ap, sym, ◌∙◌, subst, arith, append-nil}
-use Rattle.sx_desk.specs.Desk.{Seen, Rose, Opens, bytes_of}
+-- A call of the program, from what its command does to the diagnostic line.
+use Rattle.std.proofs.Common.{◌≡◌, inl, inr, List, [], ℕ, Option, Some, None, Result, refl, sym, ◌∙◌, subst}
+use Rattle.sx_desk.specs.Desk.{Seen}
 use Rattle.sx_desk.specs.declared.desk.Failed.{Failed}
 use Rattle.sx_desk.specs.declared.desk.Out.TheVariants as out
-use Rattle.sx_top.specs.Frame.{Sends}
-use Rattle.sx_top.specs.Headline.{RiseTo, HasMark, MarksStand, Answers, Transforms, ToldEnd}
-use Rattle.sx_top.specs.Copy.{copy_written, copy_outcome}
-use Rattle.sx_events.specs.Form.{stated}
-use Rattle.sx_top.specs.Commands.{Does, Runs}
-use Rattle.sx_top.specs.Run.{run_written, run_outcome}
-use Rattle.sx_top.specs.Stylesheet.{nothing_written, sheet_outcome}
+use Rattle.sx_reading.specs.Frame.{Sends}
+use Rattle.sx_reading.specs.Program.{Untouched, IsQuiet}
+use Rattle.sx_reading.specs.declared.status.Status.{Status}
+use Rattle.sx_reading.specs.declared.status.Status.TheVariants as status
+use Rattle.sx_reading.proofs.Diagnostics.{untouched_after}
+use Rattle.sx_reading.proofs.Headlines.{untouched_then}
+use Rattle.sx_events.specs.Limits.{stated}
+use Rattle.sx_events.specs.declared.limits.Limits.{Limits}
+use Rattle.sx_kinds.specs.declared.sheets.Sheet.{Sheet}
+use Rattle.sx_machine.specs.Meaning.{IsReady}
+use Rattle.sx_reading.specs.Headline.{nothing_written, Transforms}
+use Rattle.sx_reading.specs.Program.{Headline}
+use Rattle.sx_transform.specs.Loading.{Loaded}
+use Rattle.sx_transform.specs.Run.{run_written, run_outcome}
+use Rattle.sx_transform.specs.Stylesheet.{sheet_outcome}
+use Rattle.sx_transform.proofs.Accepting.{accepted_ready}
+use Rattle.sx_top.specs.Copy.{copy_sheet, copy_written, copy_outcome}
+use Rattle.sx_top.specs.Commands.{Does, Runs, RunsSheet}
 use Rattle.sx_top.specs.Words.{Asked, copies, runs}
-use Rattle.sx_top.specs.Program.{Says, IsQuiet, Untouched, Ran, Opened, OpensOrNot, Headline}
-use Rattle.sx_top.specs.declared.consumer.Outcome.{Outcome}
-use Rattle.sx_top.specs.declared.status.Status.{Status}
-use Rattle.sx_top.specs.declared.status.Status.TheVariants as status
-
-get_last : (names : List (List ℕ)) (name : List ℕ) → slice_get (names ++ name ∷ []) (length names) ≡ Some name
-get_last [] name = refl
-get_last (n ∷ ns) name = get_last ns name
-
--- a file that was opened has the bytes of its name
-pub opened_bytes : (name : List ℕ) (old mid : Seen) (file : ℕ) → Opens name old mid (Ok file) → IsTrue mid.told → bytes_of mid file ≡ unwrap_or (old.content name) []
-opened_bytes name old mid file opens t =
-    let x = opens.told t in
-    let number : file ≡ length old.opened = opens.number in
-    let names : mid.opened ≡ old.opened ++ name ∷ [] = x.opened in
-    let found : slice_get mid.opened file ≡ Some name =
-    ap (λ (ns : List (List ℕ)). slice_get ns file) names ∙ ap (λ (k : ℕ). slice_get (old.opened ++ name ∷ []) k) number ∙ get_last old.opened name in
-    ap (λ (o : Option (List ℕ)). unwrap_or (option_and_then mid.content o) []) found ∙ ap (λ (o : Option (List ℕ)). unwrap_or o []) (x.content name)
-
-earlier : (f file count : ℕ) → f < count → file ≡ count → f ≢ file
-earlier f file count lt at e = omega arith
-
--- the diagnostic output is as before
-pub quiet_same : (s : Seen) → IsQuiet s s
-quiet_same s = record { known = record { told = λ t. t; shown = λ h. h }; write_faults = refl; written_length = λ t. refl; written = λ t h. refl }
-
--- a line that is sent where the diagnostic output is as before
-pub says_after : (line : List ℕ) (old mid new : Seen) (r : Result (Unit {0}) Failed) → IsQuiet old mid → Sends out.Diagnostic line mid new r → Says line old new
-says_after line old mid new r q sends =
-    let sending = sends.some.1 in
-    let known = (sending.frame 0).known in
-    record {
-      told = λ t.
-          let front = (sending.told t).0 in
-          let x = (sending.told t).1 in
-          let tm = known.told t in (
-            front,
-            (sends.some.0, x.parts),
-            x.written_length ∙ ap (λ (k : ℕ). k + length front) (q.written_length tm),
-            whole r front x.parts sends.some.2 sends.failed,
-            λ h. x.written h ∙ ap (λ (w : List ℕ). w ++ front) (q.written tm (known.shown h)),
-          );
-    }
-  where
-    whole : (r : Result (Unit {0}) Failed) (front : List ℕ) → front ++ sends.some.0 ≡ line → OnOk r (sends.some.0 ≡ []) → OnErr r (Rose (mid.write_faults out.Diagnostic) (new.write_faults out.Diagnostic))
-        → (front ≡ line) ⊎ Rose (old.write_faults out.Diagnostic) (new.write_faults out.Diagnostic)
-    whole (Ok u) front parts all rose = inl (sym (append-nil front) ∙ ap (λ (x : List ℕ). front ++ x) (sym all) ∙ parts)
-    whole (Err e) front parts all rose = inr (subst (λ (k : ℕ). Rose k (new.write_faults out.Diagnostic)) q.write_faults rose)
-
--- a line that is sent touches no file and not the result
-pub untouched_after : (line : List ℕ) (old new : Seen) (r : Result (Unit {0}) Failed) → Sends out.Diagnostic line old new r → Untouched old new
-untouched_after line old new r sends =
-    let sending = sends.some.1 in
-    let f = sending.frame 0 in
-    record {
-      known = f.known;
-      count = f.count;
-      open_faults = f.open_faults;
-      read_faults = sending.read_faults;
-      write_faults = f.other_faults out.Result (λ e. cc);
-      told = λ t.
-          let x = f.told t in
-          let s = (sending.told t).1 in
-          record { content = x.content; opened = x.opened; asked = x.asked; taken = s.taken; written_length = x.other_length out.Result (λ e. cc) };
-      shown = λ t h.
-          let s = (sending.told t).1 in
-          record { marks = s.marks h; written = (f.shown t h).other_written out.Result (λ e. cc) };
-    }
-
-module _ (written : List ℕ → Bool → List ℕ) (outcome : List ℕ → Bool → Option Outcome) where
-  opened_so : (name : List ℕ) (old new : Seen) (s : Status) → s ≢ status.OpenFault → Opened written outcome name old new s → OpensOrNot written outcome name old new s
-  opened_so name old new status.Ok n x = x
-  opened_so name old new status.Usage n x = x
-  opened_so name old new (status.Static c l) n x = x
-  opened_so name old new (status.Dynamic c) n x = x
-  opened_so name old new (status.Refused i) n x = x
-  opened_so name old new status.OpenFault n x = absurd (n refl)
-  opened_so name old new status.ReadFault n x = x
-  opened_so name old new status.WriteFault n x = x
-  opened_so name old new status.OutOfMemory n x = x
-
-  -- what was known from the opening on is known from before it
-  ran_of : (name : List ℕ) (old mid new : Seen) (file : ℕ) (s : Status) (ended : Bool) (w : List ℕ) → Opens name old mid (Ok file) → IsTrue mid.told → (IsTrue new.shown → IsTrue mid.shown) → ToldEnd written outcome file mid new s ended w
-      → Ran written outcome (bytes_of mid file) file old new s ended w
-  ran_of name old mid new file s ended w opens t known end =
-      let length_kept : mid.written_length out.Result ≡ old.written_length out.Result = (opens.told t).written_length out.Result in
-      record {
-        within = end.within;
-        end = end.end;
-        written_length = end.written_length ∙ ap (λ (k : ℕ). k + length w) length_kept;
-        answer = end.answer;
-        shown = λ h.
-            let x = end.shown h in
-            let o = opens.shown t (known h) in
-            let added = x.marks.0 in
-            let m = x.marks.1 in
-            let fresh : mid.marks file ≡ [] = o.fresh in
-            let same : added ≡ new.marks file = sym (m.all ∙ ap (λ (ms : List (ℕ × ℕ)). ms ++ added) fresh) in
-            record {
-              bytes = x.bytes ∙ ap (λ (r : List ℕ). r ++ w) (o.written out.Result);
-              stand = subst (λ (ms : List (ℕ × ℕ)). MarksStand written outcome (bytes_of mid file) (old.written_length out.Result) w ms) same
-                  (subst (λ (k : ℕ). MarksStand written outcome (bytes_of mid file) k w added) length_kept m.stand);
-              rise = subst (λ (ms : List (ℕ × ℕ)). RiseTo ms (suc (new.taken file))) same m.rise;
-              last_read = subst (λ (ms : List (ℕ × ℕ)). IsTrue ended ↔ ((s ≢ status.ReadFault) × HasMark (length (bytes_of mid file)) ms)) same x.marks.2;
-            };
-      }
-
-  -- a file that was opened was run
-  pub run_of : (name : List ℕ) (old mid new : Seen) (file : ℕ) (s : Status) → Opens name old mid (Ok file) → Transforms written outcome file mid new s → Headline written outcome name old new s
-  run_of name old mid new file s opens run =
-      let f = run.frame in
-      let number : file ≡ length old.opened = opens.number in
-      record {
-        known = record { told = λ t. opens.known.told (f.known.told t); shown = λ h. opens.known.shown (f.known.shown h) };
-        not_usage = run.kind.0;
-        open_fault = λ q. absurd (run.kind.1 q);
-        read_fault = λ q. subst (λ (k : ℕ). Rose k new.read_faults) opens.read_faults (run.read_fault q);
-        write_fault = λ q. subst (λ (k : ℕ). Rose k (new.write_faults out.Result)) (opens.write_faults out.Result) (run.write_fault q);
-        count = (λ n. f.count ∙ opens.count, λ q. absurd (run.kind.1 q));
-        told = λ t.
-            let tm = f.known.told t in
-            let o = opens.told tm in
-            let x = f.told t in
-            let end = run.told t in
-            let ran = ran_of name old mid new file s end.0 end.1 opens tm f.known.shown end.2 in
-            record {
-              content = λ n. x.content n ∙ o.content n;
-              asked = x.asked ∙ o.asked;
-              others = λ k lt. x.others k (earlier k file (length old.opened) lt number) ∙ o.taken k lt;
-              other_marks = λ h k lt. (f.shown t h).others k (earlier k file (length old.opened) lt number) ∙ (opens.shown tm (f.known.shown h)).marks k lt;
-              run = opened_so name old new s run.kind.1 (record {
-                opened = x.opened ∙ o.opened;
-                found = o.found;
-                ran = (
-                  end.0,
-                  end.1,
-                  subst (λ (k : ℕ). Ran written outcome (unwrap_or (old.content name) []) k old new s end.0 end.1) number
-                      (subst (λ (c : List ℕ). Ran written outcome c file old new s end.0 end.1) (opened_bytes name old mid file opens tm) ran),
-                );
-              });
-            };
-      }
-
-  -- what was not touched any more stands
-  ran_after : (c : List ℕ) (file : ℕ) (old mid new : Seen) (s : Status) (ended : Bool) (w : List ℕ) → Untouched mid new → IsTrue new.told → Ran written outcome c file old mid s ended w → Ran written outcome c file old new s ended w
-  ran_after c file old mid new s ended w u t ran =
-      let x = u.told t in
-      let taken : mid.taken file ≡ new.taken file = sym (x.taken file) in
-      record {
-        within = subst (λ (k : ℕ). k ≤ length c) taken ran.within;
-        end = λ e. x.taken file ∙ ran.end e;
-        written_length = x.written_length ∙ ran.written_length;
-        answer = subst (λ (k : ℕ). Answers written outcome s (take k c) ended w) taken ran.answer;
-        shown = λ h.
-            let y = u.shown t h in
-            let before = ran.shown (u.known.shown h) in
-            let marks : mid.marks file ≡ new.marks file = sym (y.marks file) in
-            record {
-              bytes = y.written ∙ before.bytes;
-              stand = subst (λ (ms : List (ℕ × ℕ)). MarksStand written outcome c (old.written_length out.Result) w ms) marks before.stand;
-              rise = subst (λ (ms : List (ℕ × ℕ)). RiseTo ms (suc (new.taken file))) marks (subst (λ (k : ℕ). RiseTo (mid.marks file) (suc k)) taken before.rise);
-              last_read = subst (λ (ms : List (ℕ × ℕ)). IsTrue ended ↔ ((s ≢ status.ReadFault) × HasMark (length c) ms)) marks before.last_read;
-            };
-      }
-
-  opened_after : (name : List ℕ) (old mid new : Seen) (s : Status) → Untouched mid new → IsTrue new.told → Opened written outcome name old mid s → Opened written outcome name old new s
-  opened_after name old mid new s u t o = record {
-    opened = (u.told t).opened ∙ o.opened;
-    found = o.found;
-    ran = (o.ran.0, o.ran.1, ran_after (unwrap_or (old.content name) []) (length old.opened) old mid new s o.ran.0 o.ran.1 u t o.ran.2);
-  }
-
-  run_after : (name : List ℕ) (old mid new : Seen) (s : Status) → Untouched mid new → IsTrue new.told → OpensOrNot written outcome name old mid s → OpensOrNot written outcome name old new s
-  run_after name old mid new status.Ok u t x = opened_after name old mid new status.Ok u t x
-  run_after name old mid new status.Usage u t x = opened_after name old mid new status.Usage u t x
-  run_after name old mid new (status.Static c l) u t x = opened_after name old mid new (status.Static c l) u t x
-  run_after name old mid new (status.Dynamic c) u t x = opened_after name old mid new (status.Dynamic c) u t x
-  run_after name old mid new (status.Refused i) u t x = opened_after name old mid new (status.Refused i) u t x
-  run_after name old mid new status.OpenFault u t x =
-      let y = u.told t in
-      record {
-        opened = y.opened ∙ x.opened;
-        written_length = y.written_length ∙ x.written_length;
-        bytes = λ h. (u.shown t h).written ∙ x.bytes (u.known.shown h);
-      }
-  run_after name old mid new status.ReadFault u t x = opened_after name old mid new status.ReadFault u t x
-  run_after name old mid new status.WriteFault u t x = opened_after name old mid new status.WriteFault u t x
-  run_after name old mid new status.OutOfMemory u t x = opened_after name old mid new status.OutOfMemory u t x
-
-  -- what does not touch a file or the result leaves the headline as it is
-  pub untouched_then : (name : List ℕ) (old mid new : Seen) (s : Status) → Headline written outcome name old mid s → Untouched mid new → Headline written outcome name old new s
-  untouched_then name old mid new s run u = record {
-    known = record { told = λ t. run.known.told (u.known.told t); shown = λ h. run.known.shown (u.known.shown h) };
-    not_usage = run.not_usage;
-    open_fault = λ q. subst (λ (k : ℕ). Rose old.open_faults k) (sym u.open_faults) (run.open_fault q);
-    read_fault = λ q. subst (λ (k : ℕ). Rose old.read_faults k) (sym u.read_faults) (run.read_fault q);
-    write_fault = λ q. subst (λ (k : ℕ). Rose (old.write_faults out.Result) k) (sym u.write_faults) (run.write_fault q);
-    count = (λ n. u.count ∙ run.count.0 n, λ q. u.count ∙ run.count.1 q);
-    told = λ t.
-        let before = run.told (u.known.told t) in
-        let x = u.told t in
-        record {
-          content = λ n. x.content n ∙ before.content n;
-          asked = x.asked ∙ before.asked;
-          others = λ k lt. x.taken k ∙ before.others k lt;
-          other_marks = λ h k lt. (u.shown t h).marks k ∙ before.other_marks (u.known.shown h) k lt;
-          run = run_after name old mid new s u t before.run;
-        };
-  }
 
 -- what touches no file and not the result leaves what a command does
 does_then : (a : Asked) (old mid new : Seen) (s : Status) → Does a old mid s → Untouched mid new → Does a old new s
-does_then (copies document) old mid new s done u = untouched_then (copy_written stated) (copy_outcome stated) document old mid new s done u
+does_then (copies document) old mid new s done u = untouched_then copy_written copy_outcome document old mid new s done u
 does_then (runs sheet document) old mid new s (inl (inl x)) u = inl (inl (record { not_ok = x.not_ok; run = untouched_then nothing_written sheet_outcome sheet old mid new s x.run u }))
 does_then (runs sheet document) old mid new s (inl (inr x)) u = inl (inr (record {
   bytes = x.bytes;
   read = record {
     run = untouched_then nothing_written sheet_outcome sheet old mid new status.Ok x.read.run u;
-    readable = x.read.readable;
+    sound = x.read.sound;
     content = λ t. x.read.content (u.known.told t);
   };
   rejects = x.rejects;
@@ -256,7 +58,37 @@ pub runs_nothing : (o : Option Asked) (line : List ℕ) (old mid new : Seen) (s 
 runs_nothing o line old mid new s r is same_desk usage sends =
     subst (λ (o : Option Asked). Runs o old new s) is (usage, untouched_after line old new r (subst (λ (x : Seen). Sends out.Diagnostic line x new r) same_desk sends))
 
--- this line was sent where the diagnostic output was as before
-pub says_line : (line line' : List ℕ) (old done mid new : Seen) (r : Result (Unit {0}) Failed) → line ≡ line' → mid ≡ done → IsQuiet old done → Sends out.Diagnostic line mid new r → Says line' old new
-says_line line line' old done mid new r same_line same_desk q sends =
-    subst (λ (x : List ℕ). Says x old new) same_line (says_after line old done new r q (subst (λ (x : Seen). Sends out.Diagnostic line x new r) same_desk sends))
+-- a stylesheet that was loaded was run
+pub runs_loaded : (sheet_name document_name : List ℕ) (names : List (List ℕ × List ℕ)) (sheet : Sheet) (old mid new : Seen) (s : Status) → Loaded sheet_name old mid names sheet →
+    (IsReady sheet names → Headline (run_written sheet names stated) (run_outcome sheet names stated) document_name mid new s) → RunsSheet sheet_name document_name old new s
+runs_loaded sheet_name document_name names sheet old mid new s loaded ran = inr (record {
+  mid = mid;
+  names = names;
+  sheet = sheet;
+  loaded = loaded;
+  ran = ran (accepted_ready loaded.bytes names sheet loaded.accepted);
+})
+
+-- ---- copies
+
+copy_ready : IsReady copy_sheet []
+copy_ready = record { mode = inr refl; streamable = refl; known = tt }
+
+-- a run of the stylesheet of a copy
+pub copies_by : (sheet : Sheet) (names : List (List ℕ × List ℕ)) (limits : Limits) (file : ℕ) (old new : Seen) (s : Status) → sheet ≡ copy_sheet → names ≡ [] → limits ≡ stated
+    → (IsReady sheet names → Transforms (run_written sheet names limits) (run_outcome sheet names limits) file old new s) → Transforms copy_written copy_outcome file old new s
+copies_by sheet names limits file old new s sheet_is names_are limits_are ran =
+    let ready : IsReady sheet names =
+    subst (λ (x : Sheet). IsReady x names) (sym sheet_is) (subst (λ (n : List (List ℕ × List ℕ)). IsReady copy_sheet n) (sym names_are) copy_ready) in
+    subst (λ (l : Limits). Transforms (run_written copy_sheet [] l) (run_outcome copy_sheet [] l) file old new s) limits_are
+    (subst (λ (n : List (List ℕ × List ℕ)). Transforms (run_written copy_sheet n limits) (run_outcome copy_sheet n limits) file old new s) names_are
+    (subst (λ (x : Sheet). Transforms (run_written x names limits) (run_outcome x names limits) file old new s) sheet_is (ran ready)))
+
+-- what two calls leave as it is
+pub quiet_then : (old mid new : Seen) → IsQuiet old mid → IsQuiet mid new → IsQuiet old new
+quiet_then old mid new a b = record {
+  known = record { told = λ t. a.known.told (b.known.told t); shown = λ h. a.known.shown (b.known.shown h) };
+  write_faults = b.write_faults ∙ a.write_faults;
+  written_length = λ t. b.written_length t ∙ a.written_length (b.known.told t);
+  written = λ t h. b.written t h ∙ a.written (b.known.told t) (b.known.shown h);
+}

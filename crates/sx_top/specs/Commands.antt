@@ -2,14 +2,14 @@
 use Rattle.std.specs.Prelude.{◌≡◌, ◌⊎◌, ℕ, List, Option, Some, None}
 use Rattle.sx_desk.specs.Desk.{Seen}
 use Rattle.sx_kinds.specs.declared.sheets.Sheet.{Sheet}
+use Rattle.sx_events.specs.Limits.{stated}
+use Rattle.sx_reading.specs.Program.{Headline, Untouched}
+use Rattle.sx_reading.specs.declared.status.Status.{Status}
+use Rattle.sx_reading.specs.declared.status.Status.TheVariants as status
+use Rattle.sx_transform.specs.Loading.{Loaded, NotLoaded}
+use Rattle.sx_transform.specs.Run.{run_written, run_outcome}
 use Rattle.sx_top.specs.Copy.{copy_written, copy_outcome}
-use Rattle.sx_events.specs.Form.{stated}
-use Rattle.sx_top.specs.Loading.{Loaded, NotLoaded}
-use Rattle.sx_top.specs.Program.{Headline, Untouched}
-use Rattle.sx_top.specs.Run.{run_written, run_outcome}
 use Rattle.sx_top.specs.Words.{Asked, copies, runs}
-use Rattle.sx_top.specs.declared.status.Status.{Status}
-use Rattle.sx_top.specs.declared.status.Status.TheVariants as status
 
 -- the stylesheet of a name was loaded, and then it was run on the document of a name
 pub record LoadedAndRan (sheet_name document_name : List ℕ) (old new : Seen) (s : Status) : Type 0 where
@@ -26,7 +26,7 @@ RunsSheet sheet_name document_name old new s = NotLoaded sheet_name old new s �
 
 -- what the program does for what is asked
 abbrev pub Does : Asked → Seen → Seen → Status → Type 0
-Does (copies document) old new s = Headline (copy_written stated) (copy_outcome stated) document old new s
+Does (copies document) old new s = Headline copy_written copy_outcome document old new s
 Does (runs sheet document) old new s = RunsSheet sheet document old new s
 
 -- What the program does for what the words ask for, or for words that ask for nothing.

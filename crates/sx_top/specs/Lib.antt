@@ -1,15 +1,3 @@
-pub mod Answers
-pub mod Commands
-pub mod Copier
 pub mod Copy
-pub mod Frame
-pub mod Headline
-pub mod Keeping
-pub mod Loading
-pub mod Program
-pub mod Run
-pub mod Runner
-pub mod Stylesheet
-pub mod Taking
-pub mod Turn
 pub mod Words
+pub mod Commands

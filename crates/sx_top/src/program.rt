@@ -1,32 +1,77 @@
 // The whole program.
-ghost use Rattle.std.specs.Prelude.{◌≡◌, ◌<◌, ◌≤◌, ◌^◌, length, map, string_bytes};
-ghost use Rattle.sx_machine.specs.Session.{IsReady};
-ghost use Rattle.sx_top.specs.Answers.{diagnostic_of};
+ghost use Rattle.std.specs.Prelude.{◌≡◌, ◌<◌, ◌≤◌, ◌^◌, [], ◌∷◌, IsTrue, IfOk, length, map, string_bytes};
+ghost use Rattle.sx_desk.specs.declared.desk.Out.TheVariants as out;
+ghost use Rattle.sx_events.specs.Limits.{stated};
+ghost use Rattle.sx_kinds.specs.declared.sheets.OnNoMatch.TheVariants as unmatched;
+ghost use Rattle.sx_machine.specs.Meaning.{IsReady, thin_mode};
+ghost use Rattle.sx_reading.specs.Answers.{diagnostic_of};
+ghost use Rattle.sx_reading.specs.Frame.{Frame};
+ghost use Rattle.sx_reading.specs.Headline.{Transforms};
+ghost use Rattle.sx_reading.specs.Program.{Headline, IsQuiet, Says};
 ghost use Rattle.sx_top.specs.Commands.{Does, Runs, RunsSheet};
-ghost use Rattle.sx_top.specs.Copy.{copy_written, copy_outcome};
-ghost use Rattle.sx_events.specs.Form.{stated};
-ghost use Rattle.sx_top.specs.Program.{Headline, IsQuiet, Says};
-ghost use Rattle.sx_top.specs.Run.{run_written, run_outcome};
+ghost use Rattle.sx_top.specs.Copy.{copy_sheet, copy_written, copy_outcome};
 ghost use Rattle.sx_top.specs.Words.{asked, asked_of};
+ghost use Rattle.sx_transform.specs.Run.{run_written, run_outcome};
 
-use crate::copier::Copier;
-use crate::loading::load;
-use crate::send::write_all;
-use crate::transformation::transform;
-use crate::{Command, Status, parse_words, transfer};
-use std::alloc::Global;
+use crate::{Command, parse_words};
+use sqlite_items::Items;
+use std::alloc::{AllocError, Global};
 use sx_desk::{Desk, Out};
-use sx_kinds::Sheet;
+use sx_events::Limits;
+use sx_kinds::{Mode, Modes, OnNoMatch, Sheet};
 use sx_names::Names;
+use sx_reading::{Status, write_all};
+use sx_transform::{load, transform};
+
+// The one mode of the stylesheet of a copy.
+fn copying_modes(alloc: Global) -> Result<Modes, AllocError>
+    ensures { IfOk result (λ modes. modes ≡ thin_mode unmatched.ShallowCopy ∷ []) }
+{
+    let mut modes = Items::new(alloc);
+    modes.push(Mode {
+        name: None,
+        declared: true,
+        streamable: true,
+        no_match: OnNoMatch::ShallowCopy,
+    })?;
+    Ok(modes)
+}
+
+// The stylesheet of a copy.
+fn copying_sheet(alloc: Global) -> Result<Sheet, AllocError>
+    ensures { IfOk result (λ sheet. sheet ≡ copy_sheet) }
+{
+    Ok(Sheet {
+        modes: copying_modes(alloc)?,
+        templates: Items::new(alloc),
+        constructs: 0,
+    })
+}
+
+// Copies an opened file of which nothing was taken.
+fn copy_opened<D: Desk>(alloc: Global, file: u32, desk: &mut D) -> Status
+    requires given { file < length (D.seen desk.old).opened }
+    requires untouched { IsTrue (D.seen desk.old).told → (D.seen desk.old).taken file ≡ 0 }
+    ensures runs { Transforms copy_written copy_outcome file (D.seen desk.old) (D.seen desk.new) result }
+    ensures frame { Frame file out.Result (D.seen desk.old) (D.seen desk.new) }
+{
+    match copying_sheet(alloc) {
+        Ok(sheet) => {
+            let mut names = sx_names::new(alloc);
+            transform(alloc, &sheet, &mut names, &Limits::stated(), file, desk)
+        }
+        Err(_) => Status::OutOfMemory,
+    }
+}
 
 // Copies the document of a name.
 fn copy<D: Desk>(alloc: Global, name: &str, desk: &mut D) -> Status
     requires { length (D.seen desk.old).opened < 2 ^ 31 }
-    ensures headline { Headline (copy_written stated) (copy_outcome stated) name.now (D.seen desk.old) (D.seen desk.new) result }
+    ensures headline { Headline copy_written copy_outcome name.now (D.seen desk.old) (D.seen desk.new) result }
     ensures quiet { IsQuiet (D.seen desk.old) (D.seen desk.new) }
 {
     match desk.open_file(name) {
-        Ok(file) => transfer(alloc, file, desk, &mut Copier::new(alloc)),
+        Ok(file) => copy_opened(alloc, file, desk),
         Err(_) => Status::OpenFault,
     }
 }
@@ -44,7 +89,7 @@ fn run_on<D: Desk>(
     ensures quiet { IsQuiet (D.seen desk.old) (D.seen desk.new) }
 {
     match desk.open_file(name) {
-        Ok(file) => transform(alloc, sheet, names, file, desk),
+        Ok(file) => transform(alloc, sheet, names, &Limits::stated(), file, desk),
         Err(_) => Status::OpenFault,
     }
 }

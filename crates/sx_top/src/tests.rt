@@ -1,27 +1,18 @@
-// The worked examples of the program: words, a document, how it is cut, and what then is written.
+// The worked examples of copies: words, a document, how it is cut, and what then is written.
 ghost use Rattle.std.specs.Prelude.{◌≡◌, ◌<◌, ◌≤◌, [], length, IfOk, OnOk};
 ghost use Rattle.sx_desk.specs.Mem.{mem_seen};
-ghost use Rattle.sx_top.specs.declared.status.Status.TheVariants as statuses;
+ghost use Rattle.sx_reading.specs.declared.status.Status.TheVariants as statuses;
 
-use crate::{Input, Status, top};
+use crate::top;
 use std::alloc::{AllocError, Global};
 use std::test::Fail;
 use sx_desk::{Desk, MemDesk, MemFile, MemFiles, Out};
+use sx_reading::Status;
 
 const DOCUMENT: &[u8] = b"(a\n-x\n)a\nC\n";
 
-// A status, its number, and the line on the diagnostic output.
-type Ending = (Status, u8, &'static [u8]);
-
-const DONE: Ending = (Status::Ok, 0, b"");
-
-const REFUSED: Ending = (
-    Status::Refused {
-        input: Input::Document,
-    },
-    4,
-    b"error document\n",
-);
+// A document, the result, the exit status, and the line on the diagnostic output.
+type Example = (&'static str, &'static str, u8, &'static str);
 
 fn desk_with(
     alloc: Global,
@@ -57,14 +48,7 @@ pub(crate) fn run(alloc: Global, texts: &[&str], desk: &mut MemDesk) -> Result<S
     Ok(top(alloc, &words, desk))
 }
 
-// Elements in one another, to this depth.
-fn nested(alloc: Global, depth: u32) -> Result<Vec<u8>, AllocError> {
-    let mut text = repeated(alloc, b"(a\n", depth)?;
-    text.extend_from_slice(&repeated(alloc, b")a\n", depth)?)?;
-    text.extend_from_slice(b"C\n")?;
-    Ok(text)
-}
-
+// A text so many times.
 fn repeated(alloc: Global, part: &[u8], count: u32) -> Result<Vec<u8>, AllocError> {
     let mut text = Vec::new(alloc);
     for _ in 0..count {
@@ -73,11 +57,17 @@ fn repeated(alloc: Global, part: &[u8], count: u32) -> Result<Vec<u8>, AllocErro
     Ok(text)
 }
 
-// An element with a text line of this many bytes.
-fn with_line(alloc: Global, count: u32) -> Result<Vec<u8>, AllocError> {
-    let mut text = Vec::from_slice(alloc, b"(a\n-")?;
-    text.extend_from_slice(&repeated(alloc, b"x", count.saturating_sub(1))?)?;
-    text.extend_from_slice(b"\n)a\nC\n")?;
+// A text, another so many times, and a last one.
+fn around(
+    alloc: Global,
+    before: &[u8],
+    part: &[u8],
+    count: u32,
+    behind: &[u8],
+) -> Result<Vec<u8>, AllocError> {
+    let mut text = Vec::from_slice(alloc, before)?;
+    text.extend_from_slice(&repeated(alloc, part, count)?)?;
+    text.extend_from_slice(behind)?;
     Ok(text)
 }
 
@@ -86,30 +76,99 @@ pub(crate) fn has_written(desk: &MemDesk, written: &[u8], line: &[u8]) -> bool {
     desk.written(Out::Result) == Some(written) && desk.written(Out::Diagnostic) == Some(line)
 }
 
-#[test]
-fn a_document_is_copied(rt: HostRuntime) -> Result<(), Fail> {
-    let alloc = rt.alloc();
-    let cases = [
-        (DOCUMENT, DOCUMENT, DONE, "a whole document"),
-        (
-            b"(a\n)a",
-            b"(a\n)a\nC\n",
-            DONE,
-            "its last line has no newline",
-        ),
-        (b"(a\n(b\n", b"(a\n", REFUSED, "the last start is withheld"),
-        (b"(a\n-x", b"(a\n-x", REFUSED, "it ends in the root"),
-        (b"", b"", REFUSED, "it has no root"),
-    ];
-    for (document, written, (status, number, line), why) in cases {
+// The exit status of a copy that writes this result and this line; none where it writes others.
+fn copies(
+    alloc: Global,
+    document: &[u8],
+    piece: u32,
+    written: &[u8],
+    line: &str,
+) -> Result<Option<u8>, AllocError> {
+    let mut desk = desk_with(alloc, document, piece, 65_536)?;
+    let status = run(alloc, &["copy", "doc"], &mut desk)?;
+    Ok(if has_written(&desk, written, line.as_bytes()) {
+        Some(status.number())
+    } else {
+        None
+    })
+}
+
+// The first of these documents that is not copied as its example says, in pieces of some lengths.
+fn first_other(alloc: Global, examples: &[Example]) -> Result<Option<&'static str>, AllocError> {
+    for (document, written, number, line) in examples {
         for piece in [1, 2, 3, 65_536] {
-            let mut desk = desk_with(alloc, document, piece, 5)?;
-            let ended = run(alloc, &["copy", "doc"], &mut desk)?;
-            assert_eq!(rt; ended, status, "{why}");
-            assert_eq!(rt; ended.number(), number, "{why}");
-            assert!(rt; has_written(&desk, written, line), "{why}");
+            if copies(alloc, document.as_bytes(), piece, written.as_bytes(), line)?
+                != Some(*number)
+            {
+                return Ok(Some(*document));
+            }
         }
     }
+    Ok(None)
+}
+
+const WHOLE: &[Example] = &[
+    ("(a\n-x\n)a\nC\n", "(a\n-x\n)a\nC\n", 0, ""),
+    ("(a\n)a", "(a\n)a\nC\n", 0, ""),
+    (
+        "(a\n-x\n-y\\n\nL1\n-z\\134\n)a\nC\n",
+        "(a\n-xy\\nz\\\\\n)a\nC\n",
+        0,
+        "",
+    ),
+    (
+        "L1 order.xml\nsorder.xml\nAxmlns CDATA urn:shop\nAxmlns:t CDATA urn:tax\nAid TOKEN o17\nAnote IMPLIED\n(order\n-\\n\nAt:rate CDATA 0.2\n(price\n-12.50\n)price\n-\\n\n)order\nC\n",
+        "Axmlns CDATA urn:shop\nAid CDATA o17\n(order\n-\\n\nAxmlns:t CDATA urn:tax\nAt:rate CDATA 0.2\n(price\n-12.50\n)price\n-\\n\n)order\nC\n",
+        0,
+        "",
+    ),
+    (
+        "?xml version=\"1.0\"\n(a\n?go  now\\n\n-\\#8364;\\001\n)a\n?end\n",
+        "?xml version=\"1.0\"\n(a\n?go now\\n\n-€\\001\n)a\n?end\nC\n",
+        0,
+        "",
+    ),
+];
+
+const BROKEN: &[Example] = &[
+    ("(a\n(b\n", "(a\n", 4, "error document-Truncated line 3\n"),
+    ("(a\n-x", "(a\n-x", 4, "error document-Truncated line 3\n"),
+    ("", "", 4, "error document-NoRoot line 1\n"),
+    (
+        "(a\n-x\n-y\n)b\n",
+        "(a\n-xy",
+        4,
+        "error document-EndMismatch line 4\n",
+    ),
+    (
+        "(a\n(b\n)b\n-x\n-\\q\n",
+        "(a\n(b\n)b\n-x",
+        4,
+        "error document-BadEscape line 5\n",
+    ),
+    (
+        "(a\n)a\n(b\n",
+        "(a\n)a\n",
+        4,
+        "error document-AfterRoot line 3\n",
+    ),
+    (
+        "(a\nAp:x CDATA 1\n(b\n",
+        "",
+        4,
+        "error document-UnboundPrefix line 3\n",
+    ),
+];
+
+#[test]
+fn a_document_is_copied(rt: HostRuntime) -> Result<(), Fail> {
+    assert_eq!(rt; first_other(rt.alloc(), WHOLE)?, None);
+    Ok(())
+}
+
+#[test]
+fn a_malformed_document_is_copied_up_to_its_fault(rt: HostRuntime) -> Result<(), Fail> {
+    assert_eq!(rt; first_other(rt.alloc(), BROKEN)?, None);
     Ok(())
 }
 
@@ -184,25 +243,61 @@ fn a_fault_of_the_desk_ends_the_call(rt: HostRuntime) -> Result<(), Fail> {
     Ok(())
 }
 
+// Elements in one another, to this depth.
+fn nested(alloc: Global, depth: u32) -> Result<Vec<u8>, AllocError> {
+    let inner = repeated(alloc, b")a\n", depth)?;
+    let mut text = around(alloc, b"", b"(a\n", depth, &inner)?;
+    text.extend_from_slice(b"C\n")?;
+    Ok(text)
+}
+
 #[test]
-fn a_document_has_limits(rt: HostRuntime) -> Result<(), Fail> {
+fn two_hundred_elements_are_nested(rt: HostRuntime) -> Result<(), Fail> {
     let alloc = rt.alloc();
-    let cases = [
-        (nested(alloc, 200)?, nested(alloc, 200)?, DONE),
-        (nested(alloc, 201)?, repeated(alloc, b"(a\n", 199)?, REFUSED),
-        (
-            with_line(alloc, 1_048_576)?,
-            with_line(alloc, 1_048_576)?,
-            DONE,
-        ),
-        (with_line(alloc, 1_048_577)?, Vec::new(alloc), REFUSED),
-    ];
-    for (document, written, (status, number, line)) in &cases {
-        let mut desk = desk_with(alloc, document, 65_536, 65_536)?;
-        let ended = run(alloc, &["copy", "doc"], &mut desk)?;
-        assert_eq!(rt; ended, *status);
-        assert_eq!(rt; ended.number(), *number);
-        assert!(rt; has_written(&desk, written, line));
+    let most = nested(alloc, 200)?;
+    assert_eq!(rt; copies(alloc, &most, 65_536, &most, "")?, Some(0));
+    let written = repeated(alloc, b"(a\n", 199)?;
+    let line = "error document-limit-Depth line 201\n";
+    assert_eq!(rt;
+        copies(alloc, &nested(alloc, 201)?, 65_536, &written, line)?,
+        Some(8)
+    );
+    Ok(())
+}
+
+#[test]
+fn a_line_has_a_limit(rt: HostRuntime) -> Result<(), Fail> {
+    let alloc = rt.alloc();
+    let most = around(alloc, b"(a\n-", b"x", 1_048_575, b"\n)a\nC\n")?;
+    assert_eq!(rt; copies(alloc, &most, 65_536, &most, "")?, Some(0));
+    let more = around(alloc, b"(a\n-", b"x", 1_048_576, b"\n)a\nC\n")?;
+    let line = "error document-limit-Line line 2\n";
+    assert_eq!(rt; copies(alloc, &more, 65_536, b"", line)?, Some(8));
+    Ok(())
+}
+
+// An element with so many attributes, each of a name of its own.
+fn with_attributes(alloc: Global, count: u32) -> Result<Vec<u8>, AllocError> {
+    let mut text = Vec::new(alloc);
+    for number in 0..count {
+        text.extend_from_slice(b"A")?;
+        text.extend_from_slice(&repeated(alloc, b"a", 1 + number % 16)?)?;
+        text.extend_from_slice(&repeated(alloc, b"b", number / 16)?)?;
+        text.extend_from_slice(b" CDATA 1\n")?;
     }
+    text.extend_from_slice(b"(a\n)a\nC\n")?;
+    Ok(text)
+}
+
+#[test]
+fn an_element_has_256_attributes_at_most(rt: HostRuntime) -> Result<(), Fail> {
+    let alloc = rt.alloc();
+    let most = with_attributes(alloc, 256)?;
+    assert_eq!(rt; copies(alloc, &most, 65_536, &most, "")?, Some(0));
+    let line = "error document-limit-Attrs line 257\n";
+    assert_eq!(rt;
+        copies(alloc, &with_attributes(alloc, 257)?, 65_536, b"", line)?,
+        Some(8)
+    );
     Ok(())
 }

@@ -1,7 +1,8 @@
 // The worked examples of runs: a stylesheet, a document, and what then is written.
 //
 // Lines are written one behind the other, each with `|` for its newline. In them `^` stands for the lines before the
-// templates of a stylesheet, `$` for those behind them, and `*` for the two of xsl:apply-templates.
+// templates of a stylesheet, `~` for the same with shallow copy, `$` for those behind them, and `*` for the two of
+// xsl:apply-templates.
 ghost use Rattle.std.specs.Prelude.{◌≡◌, [], IfOk};
 ghost use Rattle.sx_desk.specs.Mem.{mem_seen};
 
@@ -13,11 +14,23 @@ use sx_desk::{Desk, MemDesk, MemFile, MemFiles};
 // A stylesheet, a document, the result, and what it shows.
 type Example = (&'static str, &'static str, &'static str, &'static str);
 
+// A stylesheet, a document that is broken off, the result, and the line on the diagnostic output.
+type Broken = (&'static str, &'static str, &'static str, &'static str);
+
 // A stylesheet, the line on the diagnostic output, and what it shows.
 type Fault = (&'static str, &'static str, &'static str);
 
 const BEFORE: &[u8] =
-    b"Axmlns:xsl CDATA http://www.w3.org/1999/XSL/Transform\nAxmlns:xs CDATA http://www.w3.org/2001/XMLSchema\nAversion CDATA 3.0\n(xsl:stylesheet\nAstreamable CDATA yes\nAon-no-match CDATA text-only-copy\n(xsl:mode\n)xsl:mode\n";
+    b"Axmlns:xsl CDATA http://www.w3.org/1999/XSL/Transform\nAxmlns:xs CDATA http://www.w3.org/2001/XMLSchema\nAversion CDATA 3.0\n(xsl:stylesheet\nAstreamable CDATA yes\nAon-no-match CDATA ";
+
+const BEHIND: &[u8] = b"\n(xsl:mode\n)xsl:mode\n";
+
+// The lines before the templates, where the mode does this.
+fn push_head(lines: &mut Vec<u8>, no_match: &[u8]) -> Result<(), AllocError> {
+    lines.extend_from_slice(BEFORE)?;
+    lines.extend_from_slice(no_match)?;
+    Ok(lines.extend_from_slice(BEHIND)?)
+}
 
 // The lines that a text stands for.
 fn lines(alloc: Global, text: &str) -> Result<Vec<u8>, AllocError> {
@@ -25,7 +38,8 @@ fn lines(alloc: Global, text: &str) -> Result<Vec<u8>, AllocError> {
     for byte in text.as_bytes() {
         match byte {
             b'|' => lines.push(b'\n')?,
-            b'^' => lines.extend_from_slice(BEFORE)?,
+            b'^' => push_head(&mut lines, b"text-only-copy")?,
+            b'~' => push_head(&mut lines, b"shallow-copy")?,
             b'$' => lines.extend_from_slice(b")xsl:stylesheet\nC\n")?,
             b'*' => lines.extend_from_slice(b"(xsl:apply-templates\n)xsl:apply-templates\n")?,
             byte => lines.push(*byte)?,
@@ -93,10 +107,26 @@ fn first_other(
     Ok(None)
 }
 
-// What the first of these stylesheets shows that is not refused with its line.
-fn first_other_fault(alloc: Global, faults: &[Fault]) -> Result<Option<&'static str>, AllocError> {
+// The first of these documents that is not broken off with its line.
+fn first_whole(alloc: Global, examples: &[Broken]) -> Result<Option<&'static str>, AllocError> {
+    for (sheet, document, written, line) in examples {
+        for read_piece in [1, 65_536] {
+            if ends(alloc, sheet, document, read_piece, written, line)? != Some(4) {
+                return Ok(Some(*document));
+            }
+        }
+    }
+    Ok(None)
+}
+
+// What the first of these stylesheets shows that is not refused with this status and its line.
+fn first_other_fault(
+    alloc: Global,
+    faults: &[Fault],
+    number: u8,
+) -> Result<Option<&'static str>, AllocError> {
     for (sheet, line, why) in faults {
-        if ends(alloc, sheet, "(a|)a|C|", 7, "", line)? != Some(2) {
+        if ends(alloc, sheet, "(a|)a|C|", 7, "", line)? != Some(number) {
             return Ok(Some(*why));
         }
     }
@@ -205,81 +235,113 @@ fn a_body_gives_its_parts_in_order(rt: HostRuntime) -> Result<(), Fail> {
     Ok(())
 }
 
-const BROKEN: &[Example] = &[
+const COPIES: &[Example] = &[
+    (
+        "~$",
+        "Axmlns:p CDATA u|Ak CDATA 1|(p:a|?go x|-t|(b|)b|)p:a|C|",
+        "Axmlns:p CDATA u|Ak CDATA 1|(p:a|?go x|-t|(b|)b|)p:a|C|",
+        "with no template all is copied",
+    ),
+    (
+        "~Amatch CDATA b|(xsl:template|(i|*)i|)xsl:template|$",
+        "Ak CDATA 1|(a|Ak CDATA 2|(b|Ak CDATA 3|(c|-x|)c|)b|)a|C|",
+        "Ak CDATA 1|(a|(i|Ak CDATA 3|(c|-x|)c|)i|)a|C|",
+        "an element with a template gives no attributes, those round it do",
+    ),
+    (
+        "~Amatch CDATA b|(xsl:template|)xsl:template|$",
+        "Axmlns CDATA u|(a|(b|-x|)b|)a|C|",
+        "Axmlns CDATA u|(a|(b|-x|)b|)a|C|",
+        "a template is for names in no namespace",
+    ),
+    (
+        "^Amatch CDATA a|(xsl:template|Axmlns CDATA v|(o|(p|*)p|)o|)xsl:template|$",
+        "Ak CDATA 1|(a|?go|-x|)a|C|",
+        "Axmlns CDATA v|(o|(p|-x|)p|)o|C|",
+        "a literal element has the namespace that its stylesheet gives it",
+    ),
+];
+
+#[test]
+fn a_node_without_a_template_is_copied(rt: HostRuntime) -> Result<(), Fail> {
+    assert_eq!(rt; first_other(rt.alloc(), COPIES, 0, "")?, None);
+    Ok(())
+}
+
+// An end of another name: the text before it counts, what stands behind the children does not. A start at the end is
+// withheld; an empty text does not settle it, another does.
+const BROKEN: &[Broken] = &[
     (
         "^Amatch CDATA a|(xsl:template|(o|*(xsl:text|-e|)xsl:text|)o|)xsl:template|$",
         "(a|-x|)b|",
         "(o|-x",
-        "an end of another name: the text before it counts, what stands behind the children does not",
+        "error document-EndMismatch line 3|",
     ),
     (
         "^Amatch CDATA a|(xsl:template|(o|*)o|)xsl:template|$",
         "(a|",
         "",
-        "a start at the end is withheld",
+        "error document-Truncated line 2|",
     ),
     (
         "^Amatch CDATA a|(xsl:template|(o|(xsl:text|)xsl:text|*)o|)xsl:template|$",
         "(a|",
         "",
-        "an empty text does not settle a start",
+        "error document-Truncated line 2|",
     ),
     (
         "^Amatch CDATA a|(xsl:template|(o|(xsl:text|-s|)xsl:text|*)o|)xsl:template|$",
         "(a|",
         "(o|-s",
-        "a text behind it settles a start",
+        "error document-Truncated line 2|",
     ),
 ];
 
 #[test]
 fn a_broken_document_leaves_what_was_determined(rt: HostRuntime) -> Result<(), Fail> {
-    assert_eq!(rt;
-        first_other(rt.alloc(), BROKEN, 4, "error document|")?,
-        None
-    );
+    assert_eq!(rt; first_whole(rt.alloc(), BROKEN)?, None);
     Ok(())
 }
 
-const CUT_OFF: &[Example] = &[
+// An element before the application is whole; so is a body without one while its element is open. The text of an input
+// that ends in an open element counts. A template that nothing matches gives nothing. A second root: the first one's
+// result stands, and no end.
+const CUT_OFF: &[Broken] = &[
     (
         "^Amatch CDATA a|(xsl:template|(o|)o|*)xsl:template|$",
         "(a|-x|x|",
         "(o|)o|-x",
-        "an element before the application is whole",
+        "error document-BadCommand line 3|",
     ),
     (
         "^Amatch CDATA b|(xsl:template|(o|)o|(xsl:text|-s|)xsl:text|)xsl:template|$",
         "(a|(b|",
         "(o|)o|-s",
-        "a body without an application is whole while its element is open",
+        "error document-Truncated line 3|",
     ),
     (
         "^Amatch CDATA b|(xsl:template|(i|*)i|)xsl:template|$",
         "(a|(b|-x",
         "(i|-x",
-        "the input ends in an open element: the text counts",
+        "error document-Truncated line 4|",
     ),
     (
         "^Amatch CDATA a|(xsl:template|(xsl:text|-s|)xsl:text|)xsl:template|$",
         "",
         "",
-        "nothing has come",
+        "error document-NoRoot line 1|",
     ),
     (
         "^Amatch CDATA a|(xsl:template|(o|*)o|)xsl:template|$",
         "(a|)a|(a|",
         "(o|)o|",
-        "a second root: the first one's result stands, and no end",
+        "error document-AfterRoot line 3|",
     ),
 ];
 
 #[test]
 fn a_document_that_is_cut_off_leaves_what_was_determined(rt: HostRuntime) -> Result<(), Fail> {
-    assert_eq!(rt;
-        first_other(rt.alloc(), CUT_OFF, 4, "error document|")?,
-        None
-    );
+    assert_eq!(rt; first_whole(rt.alloc(), CUT_OFF)?, None);
     Ok(())
 }
 
@@ -308,7 +370,7 @@ const NOT_STREAMABLE: &[Fault] = &[
 
 #[test]
 fn what_cannot_be_streamed_is_named_by_its_line(rt: HostRuntime) -> Result<(), Fail> {
-    assert_eq!(rt; first_other_fault(rt.alloc(), NOT_STREAMABLE)?, None);
+    assert_eq!(rt; first_other_fault(rt.alloc(), NOT_STREAMABLE, 2)?, None);
     Ok(())
 }
 
@@ -318,31 +380,21 @@ const NO_STYLESHEETS: &[Fault] = &[
         "error XTSE0010 line 11|",
         "no such instruction",
     ),
-    (
-        "^",
-        "error XTSE0010 line 9|",
-        "the stylesheet breaks off behind its mode",
-    ),
-    ("", "error XTSE0010 line 1|", "an empty stylesheet"),
+    ("(a|)a|", "error XTSE0010 line 1|", "another root"),
     (
         "^Amatch CDATA a|(xsl:template|Aid CDATA 1|(o|)o|)xsl:template|$",
-        "error XTSE0010 line 11|",
-        "an attribute of a literal element",
-    ),
-    (
-        "^Amatch CDATA a|(xsl:template|(o|)p|)xsl:template|$",
         "error XTSE0010 line 12|",
-        "an end of another name in a body",
+        "an attribute of a literal element belongs to its start",
     ),
     (
-        "^Amatch CDATA a|(xsl:template|(xsl:text|-s|-t|)xsl:text|)xsl:template|$",
-        "error XTSE0010 line 13|",
-        "a second text line",
+        "^Amatch CDATA a|(xsl:template|(xsl:text|-s|?p|-t|)xsl:text|)xsl:template|$",
+        "error XTSE0010 line 14|",
+        "a second text",
     ),
     (
-        "^Amatch CDATA a|(xsl:template|*)xsl:template|)xsl:stylesheet|C|C|",
-        "error XTSE0010 line 16|",
-        "a line behind the last",
+        "^Amatch CDATA a|(xsl:template|-x|-y|)xsl:template|$",
+        "error XTSE0010 line 12|",
+        "a text in a template has the line of its end",
     ),
     (
         "^Amatch CDATA a|(xsl:template|**)xsl:template|(xsl:template|)xsl:template|$",
@@ -353,18 +405,32 @@ const NO_STYLESHEETS: &[Fault] = &[
 
 #[test]
 fn what_is_no_stylesheet_is_named_by_its_line(rt: HostRuntime) -> Result<(), Fail> {
-    assert_eq!(rt; first_other_fault(rt.alloc(), NO_STYLESHEETS)?, None);
+    assert_eq!(rt; first_other_fault(rt.alloc(), NO_STYLESHEETS, 2)?, None);
     Ok(())
 }
 
+const MALFORMED: &[Fault] = &[
+    (
+        "^",
+        "error sheet-Truncated line 9|",
+        "it breaks off behind its mode",
+    ),
+    ("", "error sheet-NoRoot line 1|", "an empty stylesheet"),
+    (
+        "^Amatch CDATA a|(xsl:template|(o|)p|)xsl:template|$",
+        "error sheet-EndMismatch line 12|",
+        "an end of another name",
+    ),
+    (
+        "^Amatch CDATA a|(xsl:template|**)xsl:template|$?pi|",
+        "error sheet-AfterRoot line 18|",
+        "what is malformed comes before all other faults",
+    ),
+];
+
 #[test]
-fn a_line_of_another_form_comes_before_all(rt: HostRuntime) -> Result<(), Fail> {
-    let sheet =
-        "(xsl:template|^Amatch CDATA a|(xsl:template|**)xsl:template|)xsl:stylesheet|C|?pi|";
-    assert_eq!(rt;
-        ends(rt.alloc(), sheet, "(a|)a|C|", 7, "", "error sheet|")?,
-        Some(4)
-    );
+fn a_malformed_stylesheet_is_named_by_its_fault(rt: HostRuntime) -> Result<(), Fail> {
+    assert_eq!(rt; first_other_fault(rt.alloc(), MALFORMED, 4)?, None);
     Ok(())
 }
 
@@ -386,7 +452,7 @@ fn the_document_is_opened_behind_the_stylesheet(rt: HostRuntime) -> Result<(), F
     assert_eq!(rt; next_number(alloc, "^$", ("sheet", "other"))?, (5, Some(1)));
     assert_eq!(rt; next_number(alloc, "^$", ("other", "doc"))?, (5, Some(0)));
     assert_eq!(rt;
-        next_number(alloc, "^(a|$", ("sheet", "doc"))?,
+        next_number(alloc, "^(a|)a|$", ("sheet", "doc"))?,
         (2, Some(1))
     );
     Ok(())

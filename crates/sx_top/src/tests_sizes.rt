@@ -40,8 +40,9 @@ fn whole(alloc: Global, lines: &str) -> Result<String, AllocError> {
 #[test]
 fn literal_elements_stand_in_one_another(rt: HostRuntime) -> Result<(), Fail> {
     let alloc = rt.alloc();
-    let sheet = sheet_with(alloc, &around(alloc, "(o|", "*", ")o|", 200)?)?;
-    let written = whole(alloc, &around(alloc, "(o|", "-x|", ")o|", 200)?)?;
+    // With the stylesheet, the template and the application in it as many are open as may be.
+    let sheet = sheet_with(alloc, &around(alloc, "(o|", "*", ")o|", 197)?)?;
+    let written = whole(alloc, &around(alloc, "(o|", "-x|", ")o|", 197)?)?;
     assert_eq!(rt;
         ends(alloc, &sheet, "(a|-x|)a|C|", 64, &written, "")?,
         Some(0)

@@ -1,5 +1,5 @@
 // Text that contracts see as its bytes.
-ghost use Rattle.std.specs.Prelude.{◌≡◌, [], IfOk};
+ghost use Rattle.std.specs.Prelude.{◌≡◌, [], ◌++◌, IfOk, OnOk, OnErr};
 
 use std::alloc::{AllocError, Global};
 use std::marker::Model;
@@ -35,6 +35,14 @@ impl Chars {
         Ok(Chars {
             inner: String::from_str(alloc, s)?,
         })
+    }
+
+    /// Puts a text behind this one. After an `AllocError` nothing has changed.
+    pub fn push_str(&mut self, more: &str) -> Result<(), AllocError>
+        ensures ok { OnOk result (self.new ≡ self.old ++ more.now) }
+        ensures err { OnErr result (self.new ≡ self.old) }
+    {
+        self.inner.push_str(more)
     }
 
     /// The text.

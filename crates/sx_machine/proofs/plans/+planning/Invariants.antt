@@ -1,7 +1,9 @@
-use Rattle.std.proofs.Common.{◌≡◌, drop}
-use Rattle.sx_machine.specs.Body.{body_of}
-use Rattle.sx_machine.specs.Plan.{then_plan, plan_of}
+use Rattle.std.proofs.Common.{◌≡◌, ℕ, List, drop}
+use Rattle.sx_machine.specs.Body.{body_of, written_out}
+use Rattle.sx_machine.specs.Plan.{then_plan, plan_of, read_plan}
 use Rattle.sx_machine.proofs.plans.+planning.Given as goal
 
 abbrev pub invariant-plan_instrs-loop-instr : goal.invariant-plan_instrs-loop-instr
-invariant-plan_instrs-loop-instr l = then_plan l.plan (plan_of (body_of (drop l.instr-index l.instrs))) ≡ then_plan l.initial.plan (plan_of (body_of l.instrs))
+invariant-plan_instrs-loop-instr l = (names : List (List ℕ × List ℕ)) (left : ℕ)
+    → then_plan (read_plan names l.plan) (plan_of left (written_out names (body_of (drop l.instr-index l.instrs))))
+    ≡ then_plan (read_plan names l.initial.plan) (plan_of left (written_out names (body_of l.instrs)))

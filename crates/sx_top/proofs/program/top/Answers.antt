@@ -1,5 +1,6 @@
 use Rattle.std.proofs.Common.{ap, ◌∙◌}
-use Rattle.sx_top.proofs.Programs.{quiet_same, runs_command, runs_nothing, says_line}
+use Rattle.sx_reading.proofs.Diagnostics.{quiet_same, says_line}
+use Rattle.sx_top.proofs.Programs.{runs_command, runs_nothing}
 use Rattle.sx_top.proofs.program.top.Goals as goal
 use Rattle.sx_top.proofs.program.top.Goals.{in-Some, in-None}
 

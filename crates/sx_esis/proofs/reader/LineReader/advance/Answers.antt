@@ -1,33 +1,8 @@
-use Rattle.std.proofs.Common.{◌∙◌, sym, inl, inr, arith}
-use Rattle.sx_esis.proofs.ReaderLemmas.{fault_again, line_judged, long_fails, gave_all, rest_judged}
+use Rattle.std.proofs.Common.{◌∙◌, ap, sym, Some}
+use Rattle.sx_esis.specs.declared.faults.LineWhich.{LineWhich}
+use Rattle.sx_esis.proofs.ReaderLemmas.{fault_again}
 use Rattle.sx_esis.proofs.reader.LineReader.advance.Goals as goal
-use Rattle.sx_esis.proofs.reader.LineReader.advance.Goals.{then-rest-eq0-via-then-rest-eq0, then-rest-eq0-via-else-rest-eq0+then-not-self}
-
-pub returns-then-self-clause-gives : goal.returns-then-self-clause-gives
-returns-then-self-clause-gives c = λ limit bytes ended given stands.
-    fault_again limit bytes ended given c.args.self.now stands _ _ c.if-self.true c.fail.ensures
 
 pub returns-in-Some-clause-gives : goal.returns-in-Some-clause-gives
 returns-in-Some-clause-gives c = λ limit bytes ended given stands.
-    line_judged limit bytes ended given c.args.self.now stands c.find_line.new.self c.take_line.new.self c.in-Some.line_length _ _ c.if-self.false
-    c.find_line.ensures.rest c.in-Some.ensures.found c.take_line.ensures.line c.take_line.ensures.rest c.judge.ensures
-
-pub returns-then-rest-self-clause-gives : goal.returns-then-rest-self-clause-gives
-returns-then-rest-self-clause-gives c = λ limit bytes ended given stands.
-    long_fails limit bytes ended given c.args.self.now stands c.find_line.new.self _ _ c.if-self.false
-    c.find_line.ensures.rest c.in_default.ensures.found (omega (arith, c.waiting_len-rest.ensures)) c.fail-then-rest-self.ensures
-
-pub returns-then-rest-eq0-clause-gives : goal.returns-then-rest-eq0-clause-gives
-returns-then-rest-eq0-clause-gives c = λ limit bytes ended given stands.
-    gave_all limit bytes ended given c.args.self.now stands c.find_line.new.self c.if-self.false
-    c.find_line.ensures.rest c.in_default.ensures.found (omega (arith, c.waiting_len-rest.ensures))
-    (elim c.then-rest-eq0.branch [
-      | then-rest-eq0-via-then-rest-eq0 w ↦ inl (sym c.waiting_len-rest.ensures ∙ w.if-rest-eq0.true)
-      | then-rest-eq0-via-else-rest-eq0+then-not-self w ↦ inr w.if-not-self.true
-    ])
-
-pub returns-clause-gives : goal.returns-clause-gives
-returns-clause-gives c = λ limit bytes ended given stands.
-    rest_judged limit bytes ended given c.args.self.now stands c.find_line.new.self c.take_rest.new.self _ _ c.if-self.false
-    c.find_line.ensures.rest c.in_default.ensures.found (omega (arith, c.waiting_len-rest.ensures)) (let some = c.if-rest-eq0.false in omega (arith, c.waiting_len-rest.ensures)) c.if-not-self.false
-    c.take_rest.ensures.line c.take_rest.ensures.rest c.judge-2.ensures
+    fault_again limit bytes ended given c.args.self.now stands _ _ (c.in-Some.is ∙ ap (λ (w : LineWhich). Some w) (sym c.fail.ensures.which)) c.fail.ensures.fails

@@ -1,5 +1,5 @@
 use Rattle.std.proofs.Common.{refl, ap, ◌∙◌, Some, Result}
-use Rattle.sx_esis.specs.declared.reader.LineFault.{LineFault}
+use Rattle.sx_esis.specs.declared.faults.LineFault.{LineFault}
 use Rattle.sx_esis.proofs.NextLemmas.{follows_line, follows_fault, follows_none}
 use Rattle.sx_esis.proofs.reader.LineReader.next.Goals as goal
 

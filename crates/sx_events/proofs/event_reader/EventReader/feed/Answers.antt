@@ -1,38 +1,50 @@
-use Rattle.std.proofs.Common.{◌≡◌, ◌++◌, ◌-◌, ◌^◌, min, length, length-append, false, arith, refl, sym, ◌∙◌}
+use Rattle.std.proofs.Common.{◌≡◌, ◌++◌, ◌-◌, ◌^◌, ◌≤◌, ℕ, List, min, false, length, length-append, refl, ap, sym, ◌∙◌, subst, arith}
 use Rattle.std.proofs.lemmas.Result.{err_from_is_err_and}
-use Rattle.sx_events.proofs.Feedings.{within_more, along_fed, stands_fed, stands_going, same_at}
-use Rattle.sx_events.proofs.Readings.{no_ending, going_of}
+use Rattle.sx_esis.specs.Stands as reader
+use Rattle.sx_events.specs.Course.{looked_at}
+use Rattle.sx_events.specs.declared.limits.Limits.{Limits}
+use Rattle.sx_events.proofs.Feedings.{along_more, stands_fed, same_at}
+use Rattle.sx_events.proofs.Readings.{no_ending, going_of, stands_going}
 use Rattle.sx_events.proofs.event_reader.EventReader.feed.Goals as goal
 
 pub returns-then-is_some-clause-fed : goal.returns-then-is_some-clause-fed
-returns-then-is_some-clause-fed c = λ names b given s. stands_fed c.args.self.now names b c.args.piece.now given (sym c.is_some.ensures ∙ c.if-is_some.true) s
+returns-then-is_some-clause-fed c = λ limits names b given stands. stands_fed c.args.self.now limits names b c.args.piece.now given (sym c.is_some.ensures ∙ c.if-is_some.true) stands
 
 pub returns-in_err-feed-clause-err : goal.returns-in_err-feed-clause-err
 returns-in_err-feed-clause-err c =
     let p = err_from_is_err_and c.from_residual.result c.from_residual.ensures.1 in
-    rw p.1 (λ names b ended given s. same_at c.args.self.now.ending c.args.self.now _ names b ended given refl
-    (λ going. record {
-      counted = record { total = going.counted.total; told = going.counted.told };
+    rw p.1 (λ limits names b ended given stands. same_at c.args.self.now.ending c.args.self.now _ limits names b ended given refl refl
+    (λ going.
+    let a = going.along in
+    record {
+      counted = record { same = going.counted.same; total = going.counted.total; told = going.counted.told };
       along = record {
-        front = going.along.front;
-        more = going.along.more;
-        lines = going.along.lines;
-        reads = c.in_err-feed.ensures.err 1048576 _ _ _ going.along.reads;
-        fit = going.along.fit;
-        took = going.along.took;
+        small = a.small;
+        front = a.front;
+        more = a.more;
+        lines = a.lines;
+        reads = c.in_err-feed.ensures.err limits.line _ _ _ a.reads;
+        sound = a.sound;
+        knows = a.knows;
+        pends = a.pends;
       };
-    }) s)
+    }) stands)
 
 pub returns-clause-fed : goal.returns-clause-fed
-returns-clause-fed c = λ names b given s.
-    let none = no_ending _ (sym c.is_some.ensures ∙ c.if-is_some.false) in
-    let going = going_of c.args.self.now names b false given none s in
+returns-clause-fed c = λ limits names b given stands.
+    let s = c.args.self.now in
+    let piece = c.args.piece.now in
+    let none = no_ending s.ending (sym c.is_some.ensures ∙ c.if-is_some.false) in
+    let going = going_of s limits names b false given none stands in
+    let a = going.along in
     let total = going.counted.total in
-    let count : c.min.result ≡ min (length c.args.piece.now) (2 ^ 40 - c.args.self.now.total) = omega arith in
-    let now : c.saturating_add-self.result ≡ min (length (b ++ c.args.piece.now)) (2 ^ 64 - 1) = omega (arith, total, length-append b c.args.piece.now) in
-    stands_going _ names (b ++ c.args.piece.now) false given none (record {
-      counted = record { total = now; told = going.counted.told };
-      along = along_fed c.args.self.now.lines _ _ _ names b c.args.piece.now c.split_at.result.0.now given
-          (within_more b c.args.piece.now c.split_at.result.0.now c.min.result c.args.self.now.total c.split_at.ensures.front count total) going.along
-          (c.in_ok-feed.ensures.ok 1048576 _ _ going.along.reads);
+    let same : limits.bytes ≡ s.limits.bytes = ap (λ (l : Limits). l.bytes) (sym going.counted.same) in
+    let small : s.limits.bytes ≤ 2 ^ 61 = subst (λ (n : ℕ). n ≤ 2 ^ 61) same a.small.bytes in
+    let looks : looked_at limits (b ++ piece) ≡ looked_at limits b ++ c.split_at.result.0.now =
+    c.count_looked_at-count.ensures.is limits b same small total ∙ ap (λ (x : List ℕ). looked_at limits b ++ x) (sym c.split_at.ensures.front) in
+    let now : c.saturating_add-self.result ≡ min (length (b ++ piece)) (2 ^ 64 - 1) = omega (arith, total, length-append b piece) in
+    stands_going _ limits names (b ++ piece) false given none (record {
+      counted = record { same = going.counted.same; total = now; told = going.counted.told };
+      along = along_more s.lines c.feed.new.self s.standing s.pending limits names b piece false given s.line a
+          (subst (λ (x : List ℕ). reader.Stands c.feed.new.self limits.line x false (length a.front)) (sym looks) (c.in_ok-feed.ensures.ok limits.line _ _ a.reads));
     })

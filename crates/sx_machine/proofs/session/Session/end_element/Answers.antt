@@ -1,27 +1,18 @@
-use Rattle.std.proofs.Common.{◌++◌, false, List, refl, ap, sym, ◌∙◌, subst}
+use Rattle.std.proofs.Common.{◌++◌, ◌∷◌, [], List, refl, ap, sym, ◌∙◌}
 use Rattle.std.proofs.lemmas.Result.{on_ok_weaker}
-use Rattle.sx_build.specs.declared.raw.Raw.{Raw}
-use Rattle.sx_build.specs.Build.{HaveNumbers}
-use Rattle.sx_build.specs.Builder.{Stands}
-use Rattle.sx_machine.specs.declared.plans.Rule.{Rule}
-use Rattle.sx_machine.specs.Plan.{after_at}
-use Rattle.sx_machine.specs.Session.{meaning_on}
-use Rattle.sx_machine.proofs.Machine.{builds_going}
-use Rattle.sx_machine.proofs.Moves.{end_nothing, end_comes}
-use Rattle.sx_machine.proofs.Rules.{known_after}
+use Rattle.sx_machine.specs.declared.session.Frame.{Frame}
+use Rattle.sx_machine.proofs.Moves.{end_nothing, end_comes, after_known}
 use Rattle.sx_machine.proofs.session.Session.end_element.Goals as goal
 
 pub returns-in-None-clause-ok : goal.returns-in-None-clause-ok
-returns-in-None-clause-ok c = λ sheet known d given keeps o s.
-    end_nothing sheet known c.args.self.now _ d given s c.requires o c.in-None.ensures.0 refl c.in-None.ensures.1 refl c.requires
+returns-in-None-clause-ok c = λ sheet known invocations d given keeps o s.
+    end_nothing sheet known invocations c.args.self.now d given s c.requires o _ refl refl refl c.in-None.ensures.0 c.in-None.ensures.1 refl c.requires
 
 pub returns-in-Some-clause-ok : goal.returns-in-Some-clause-ok
-returns-in-Some-clause-ok c = on_ok_weaker c.write.result (λ wrote sheet known d given keeps o s.
-    let rules = c.args.self.now.rules.list in
-    let place = c.in-Some.frame.rule in
-    let same = c.behind_in.ensures ∙ ap (λ (rs : List Rule). after_at rs place) c.as_slice.ensures in
-    let known_here : HaveNumbers known (after_at rules place) = subst (λ (rs : List Rule). HaveNumbers known (after_at rs place)) (sym s.rules_are) (known_after known sheet.templates place s.ready.known) in
-    let built = wrote known (meaning_on sheet d).raw given keeps (subst (HaveNumbers known) (sym same) known_here)
-    (builds_going sheet known c.args.self.now c.args.self.now d given s c.requires) in
-    end_comes sheet known c.args.self.now _ d given s c.requires o c.in-Some.frame c.in-Some.ensures refl
-    (subst (λ (raws : List Raw). Stands c.write.new.builder known ((meaning_on sheet d).raw ++ raws) false given) same built) c.requires) c.write.ensures
+returns-in-Some-clause-ok c = on_ok_weaker c.leave.result (λ wrote sheet known invocations d given keeps o s.
+    let old = c.args.self.now in
+    let frame : Frame = c.in-Some.frame in
+    end_comes sheet known invocations old d given s c.requires o c.leave.new.self c.args.names.now frame
+    (c.in-Some.ensures ∙ ap (λ (fs : List Frame). fs ++ frame ∷ []) (sym c.leave.ensures.frames))
+    (after_known sheet known invocations old d given s c.requires o c.args.names.now keeps frame.after)
+    (record { same_rules = wrote.same_rules; same_copying = wrote.same_copying; same_root = wrote.same_root; wrote = wrote.wrote })) c.leave.ensures.ok

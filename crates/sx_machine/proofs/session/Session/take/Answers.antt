@@ -1,34 +1,37 @@
 use Rattle.std.proofs.Common.{ap, refl, subst}
 use Rattle.std.proofs.lemmas.Result.{on_ok_weaker}
-use Rattle.sx_tree.specs.Events.{Element, happening_of, happenings_of}
+use Rattle.sx_tree.specs.declared.events.Event.{Event}
+use Rattle.sx_tree.specs.Named.{Begun, named, name_at, attributes_at, IsKnown}
 use Rattle.sx_tree.specs.Tree.{Happening, tree_of, starts, ends, says, instructs, closes}
 use Rattle.sx_machine.specs.Growth.{MayCome}
 use Rattle.sx_machine.proofs.Events.{stands_more}
 use Rattle.sx_machine.proofs.session.Session.take.Goals as goal
 
 pub returns-in-Start-clause-stands : goal.returns-in-Start-clause-stands
-returns-in-Start-clause-stands c = on_ok_weaker c.start_element.result (λ started sheet known p given keeps follows s.
-    let e : Element = record { label = c.in-Start.label; attrs = c.in-Start.attrs } in
-    stands_more sheet known _ p c.args.e (starts e) given (ap happening_of c.in-Start.is)
-    (started sheet known (tree_of (happenings_of p)) e given keeps follows.not_closed refl s)) c.start_element.ensures.ok
+returns-in-Start-clause-stands c = on_ok_weaker c.start_element.result (λ started sheet known invocations p given keeps distinct numbers follows s.
+    let names = c.args.names.now in
+    let e : Begun = record { name = name_at names c.in-Start.label; attributes = attributes_at names c.in-Start.attrs; spaces = c.in-Start.spaces } in
+    let there = subst (λ (event : Event). IsKnown names event) c.in-Start.is numbers in
+    stands_more sheet known invocations _ p (named names c.args.e) (starts e) given (ap (named names) c.in-Start.is)
+    (started sheet known invocations (tree_of p) e given keeps distinct there.0 refl refl follows.not_closed s)) c.start_element.ensures.ok
 
 pub returns-in-End-clause-stands : goal.returns-in-End-clause-stands
-returns-in-End-clause-stands c = on_ok_weaker c.end_element.result (λ ended sheet known p given keeps follows s.
-    stands_more sheet known _ p c.args.e ends given (ap happening_of c.in-End.is)
-    (ended sheet known (tree_of (happenings_of p)) given keeps follows.not_closed s)) c.end_element.ensures.ok
+returns-in-End-clause-stands c = on_ok_weaker c.end_element.result (λ ended sheet known invocations p given keeps distinct numbers follows s.
+    stands_more sheet known invocations _ p (named c.args.names.now c.args.e) ends given (ap (named c.args.names.now) c.in-End.is)
+    (ended sheet known invocations (tree_of p) given keeps follows.not_closed s)) c.end_element.ensures.ok
 
 pub returns-in-Text-clause-stands : goal.returns-in-Text-clause-stands
-returns-in-Text-clause-stands c = on_ok_weaker c.say.result (λ said sheet known p given keeps follows s.
-    stands_more sheet known _ p c.args.e (says c.in-Text.text) given (ap happening_of c.in-Text.is)
-    (said sheet known (tree_of (happenings_of p)) given keeps follows.not_closed s)) c.say.ensures.ok
+returns-in-Text-clause-stands c = on_ok_weaker c.say.result (λ said sheet known invocations p given keeps distinct numbers follows s.
+    stands_more sheet known invocations _ p (named c.args.names.now c.args.e) (says c.in-Text.text) given (ap (named c.args.names.now) c.in-Text.is)
+    (said sheet known invocations (tree_of p) given follows.not_closed s)) c.say.ensures.ok
 
 pub returns-in-Pi-clause-stands : goal.returns-in-Pi-clause-stands
-returns-in-Pi-clause-stands c = λ sheet known p given keeps follows s.
-    stands_more sheet known _ p c.args.e (instructs c.in-Pi.target c.in-Pi.content) given (ap happening_of c.in-Pi.is)
-    (c.instruct.ensures.stands sheet known (tree_of (happenings_of p)) c.in-Pi.target c.in-Pi.content given follows.not_closed s)
+returns-in-Pi-clause-stands c = on_ok_weaker c.instruct.result (λ instructed sheet known invocations p given keeps distinct numbers follows s.
+    stands_more sheet known invocations _ p (named c.args.names.now c.args.e) (instructs c.in-Pi.target c.in-Pi.content) given (ap (named c.args.names.now) c.in-Pi.is)
+    (instructed sheet known invocations (tree_of p) given follows.not_closed s)) c.instruct.ensures.ok
 
 pub returns-clause-stands : goal.returns-clause-stands
-returns-clause-stands c = λ sheet known p given keeps follows s.
-    let at : MayCome (happenings_of p) closes = subst (λ (h : Happening Element). MayCome (happenings_of p) h) (ap happening_of c.in-Close.is) follows in
-    stands_more sheet known _ p c.args.e closes given (ap happening_of c.in-Close.is)
-    (c.close.ensures.stands sheet known (tree_of (happenings_of p)) given at.not_closed at.whole s)
+returns-clause-stands c = λ sheet known invocations p given keeps distinct numbers follows s.
+    let at : MayCome p closes = subst (λ (h : Happening Begun). MayCome p h) (ap (named c.args.names.now) c.in-Close.is) follows in
+    stands_more sheet known invocations _ p (named c.args.names.now c.args.e) closes given (ap (named c.args.names.now) c.in-Close.is)
+    (c.close.ensures.stands sheet known invocations (tree_of p) given at.not_closed at.whole s)

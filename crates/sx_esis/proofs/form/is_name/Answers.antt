@@ -1,7 +1,0 @@
-use Rattle.std.proofs.Common.{◌∙◌, sym}
-use Rattle.sx_esis.specs.Lines.{is_letter}
-use Rattle.sx_esis.proofs.FormLemmas.{some_of}
-use Rattle.sx_esis.proofs.form.is_name.Goals as goal
-
-pub returns-then-not-is_empty : goal.returns-then-not-is_empty
-returns-then-not-is_empty c = c.all_letters.ensures ∙ some_of is_letter c.args.name.now (sym c.is_empty.ensures ∙ c.if-not-is_empty.true)

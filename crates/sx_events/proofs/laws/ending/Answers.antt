@@ -1,0 +1,26 @@
+use Rattle.std.proofs.Common.{◌≡◌, ◌≢◌, Option, Some, None, is_some, true, false, inl, inr, refl, ap}
+use Rattle.sx_tree.specs.Named.{Begun}
+use Rattle.sx_tree.specs.Tree.{Document}
+use Rattle.sx_events.specs.Course.{break_of}
+use Rattle.sx_events.specs.declared.faults.DocFault.{DocFault}
+use Rattle.sx_events.proofs.Nests.{open_where, closed_where, none_open_where, broken_beyond}
+use Rattle.sx_events.proofs.laws.ending.Goals as goal
+
+not_none : (o : Option DocFault) → o ≢ None → is_some o ≡ true
+not_none None h = absurd (h refl)
+not_none (Some x) h = refl
+
+pub returns-clause-closed : goal.returns-clause-closed
+returns-clause-closed c = λ limits b sound. ap (λ (d : Document Begun). d.is_open) (closed_where limits b true (ap is_some sound) refl)
+
+pub returns-clause-ended : goal.returns-clause-ended
+returns-clause-ended c = λ limits b sound. none_open_where limits b true (ap is_some sound) refl
+
+pub returns-clause-going : goal.returns-clause-going
+returns-clause-going c = λ limits b. open_where limits b false (inr refl)
+
+pub returns-clause-broken : goal.returns-clause-broken
+returns-clause-broken c = λ limits b ended off. open_where limits b ended (inl (not_none (break_of limits b ended) off))
+
+pub returns-clause-bytes : goal.returns-clause-bytes
+returns-clause-bytes c = broken_beyond

@@ -1,0 +1,28 @@
+-- What the definitions come to.
+use Rattle.std.specs.Prelude.{◌≡◌, ℕ, Bool, false, List, [], ◌∷◌, ◌++◌, Some}
+use Rattle.sx_tree.specs.Events.{MayFollow}
+use Rattle.sx_tree.specs.Named.{Begun}
+use Rattle.sx_tree.specs.Tree.{Happening, Document, tree_of}
+use Rattle.sx_events.specs.Course.{Lined, whats, events_of, break_of}
+use Rattle.sx_events.specs.declared.faults.DocFault.{DocFault}
+use Rattle.sx_events.specs.declared.limits.Limits.{Limits}
+
+-- each of these may happen behind those before it
+abbrev pub AllFollow : List (Happening Begun) → List (Happening Begun) → Type 0
+AllFollow p [] = Unit {0}
+AllFollow p (h ∷ hs) = MayFollow p h × AllFollow (p ++ h ∷ []) hs
+
+-- More bytes only add events.
+pub record Grows (limits : Limits) (b d : List ℕ) (ended : Bool) : Type 0 where
+  pub more : List Lined
+  pub events : events_of limits (b ++ d) ended ≡ events_of limits b false ++ more
+  pub happenings : whats (events_of limits (b ++ d) ended) ≡ whats (events_of limits b false) ++ whats more
+
+-- Bytes that are broken off stay so, with the same events.
+pub record StaysBroken (limits : Limits) (b d : List ℕ) (ended : Bool) (fault : DocFault) : Type 0 where
+  pub stays : break_of limits (b ++ d) ended ≡ Some fault
+  pub events : events_of limits (b ++ d) ended ≡ events_of limits b false
+
+-- the tree of the events of bytes
+abbrev pub tree : Limits → List ℕ → Bool → Document Begun
+tree limits b ended = tree_of (whats (events_of limits b ended))

@@ -1,0 +1,109 @@
+// What a session asks of its builder.
+ghost use Rattle.std.specs.Prelude.{◌≡◌, ◌∷◌, [], ◌++◌, ℕ, List, Bool, true, false, reverse, length, drop, OnOk, IfOk};
+ghost use Rattle.sx_build.specs.Asked.{Asked, asked_at, all_asked_at};
+ghost use Rattle.sx_build.specs.Build.{Build};
+ghost use Rattle.sx_machine.specs.Writer.{StandsFor, asked_attributes};
+ghost use Rattle.sx_tree.specs.Named.{attributes_at};
+
+use sqlite_items::Items;
+use std::alloc::{AllocError, Global};
+use sx_atoms::Code;
+use sx_build::{Builder, Builts, Raw};
+use sx_names::Names;
+use sx_tree::Attrs;
+
+/// The builder of a session, and the error of what it was asked for.
+#[derive(Drop)]
+pub struct Writer {
+    builder: Builder,
+    error: Option<Code>,
+}
+
+// The attributes, the last first, so that each can be taken from the end.
+fn turned(alloc: Global, mut attrs: Attrs) -> Result<Attrs, AllocError>
+    ensures { IfOk result (λ turned. turned ≡ reverse attrs) }
+{
+    let mut turned = Items::new(alloc);
+    while let Some(attr) = attrs.pop() {
+        turned.push(attr)?;
+    }
+    Ok(turned)
+}
+
+impl Writer {
+    /// A builder that nothing was asked of.
+    pub(crate) fn new(alloc: Global) -> Writer
+        ensures { StandsFor result [] false 0 }
+    {
+        Writer {
+            builder: Builder::new(alloc),
+            error: None,
+        }
+    }
+
+    /// Asks for what comes next.
+    pub(crate) fn push(&mut self, raw: Raw, names: &Names) -> Result<(), AllocError>
+        ensures { OnOk result ((asked : List Asked) (given : ℕ) → StandsFor self.old asked false given
+            → StandsFor self.new (asked ++ asked_at names.now raw ∷ []) false given) }
+    {
+        self.error = self.builder.push(raw, names)?.err();
+        Ok(())
+    }
+
+    /// Asks for copies of all of these, one behind the other.
+    pub(crate) fn push_all(
+        &mut self,
+        alloc: Global,
+        raws: &[Raw],
+        names: &Names,
+    ) -> Result<(), AllocError>
+        ensures { OnOk result ((asked : List Asked) (given : ℕ) → StandsFor self.old asked false given
+            → StandsFor self.new (asked ++ all_asked_at names.now raws.now) false given) }
+    {
+        for raw in raws {
+            self.push(Raw::copy(alloc, raw)?, names)?;
+        }
+        Ok(())
+    }
+
+    /// Asks for these attributes in their order.
+    pub(crate) fn push_attributes(
+        &mut self,
+        alloc: Global,
+        attrs: Attrs,
+        names: &Names,
+    ) -> Result<(), AllocError>
+        ensures { OnOk result ((asked : List Asked) (given : ℕ) → StandsFor self.old asked false given
+            → StandsFor self.new (asked ++ asked_attributes (attributes_at names.now attrs)) false given) }
+    {
+        let mut turned = turned(alloc, attrs)?;
+        while let Some(attr) = turned.pop() {
+            self.push(Raw::Attr(attr), names)?;
+        }
+        Ok(())
+    }
+
+    /// The error of what was asked for.
+    pub(crate) fn error(&self) -> Option<Code>
+        ensures { result ≡ self.now.error }
+    {
+        self.error
+    }
+
+    /// Is told that the content is at its end.
+    pub(crate) fn finish(&mut self)
+        ensures { (asked : List Asked) (given : ℕ) → StandsFor self.old asked false given → StandsFor self.new asked true given }
+    {
+        self.builder.finish();
+    }
+
+    /// The built events that are fixed and were not given yet, in order. It takes no memory.
+    pub(crate) fn drain(&mut self) -> Builts
+        ensures gives { (asked : List Asked) (at_end : Bool) (given : ℕ) → StandsFor self.old asked at_end given
+            → result ≡ drop given (Build asked at_end) }
+        ensures stands { (asked : List Asked) (at_end : Bool) (given : ℕ) → StandsFor self.old asked at_end given
+            → StandsFor self.new asked at_end (length (Build asked at_end)) }
+    {
+        self.builder.drain()
+    }
+}

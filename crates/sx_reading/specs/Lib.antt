@@ -1,0 +1,5 @@
+pub mod Answers
+pub mod Frame
+pub mod Headline
+pub mod Program
+pub mod Turn

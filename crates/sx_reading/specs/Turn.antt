@@ -1,0 +1,56 @@
+-- What a transformation keeps from read to read.
+use Rattle.std.specs.Prelude.{◌≡◌, ◌↔◌, ℕ, suc, ◌+◌, ◌^◌, ◌≤◌, Bool, true, false, IsTrue, if◌then◌else◌, List, [], ◌∷◌, ◌++◌, length, take, Option, Some, None}
+use Rattle.sx_desk.specs.Desk.{Seen, bytes_of}
+use Rattle.sx_desk.specs.declared.desk.Out.TheVariants as out
+use Rattle.sx_reading.specs.Frame.{Frame}
+use Rattle.sx_reading.specs.Headline.{WrittenFor, OutcomeFor, IsMeaning, Marked, HasMark, Transforms, TookWhole}
+use Rattle.sx_reading.specs.declared.status.Status.{Status}
+use Rattle.sx_reading.specs.declared.status.Status.TheVariants as status
+
+-- no bytes say that the input has ended
+abbrev pub is_end : List ℕ → Bool
+is_end [] = true
+is_end (x ∷ xs) = false
+
+module _ (written : WrittenFor) (outcome : OutcomeFor) where
+  pub record ShownMid (file : ℕ) (start now : Seen) (ended : Bool) (w : List ℕ) : Type 0 where
+    pub bytes : now.written out.Result ≡ start.written out.Result ++ w
+    pub marks : (added : List (ℕ × ℕ)) × Marked written outcome (bytes_of start file) (start.written_length out.Result) w (start.marks file) (now.marks file) added
+        (if ended then suc (now.taken file) else now.taken file)
+        × (IsTrue ended ↔ HasMark (length (bytes_of start file)) added)
+
+  -- these bytes were written so far
+  pub record ToldMid (file : ℕ) (start now : Seen) (ended : Bool) (w : List ℕ) : Type 0 where
+    pub within : now.taken file ≤ length (bytes_of start file)
+    pub end : IsTrue ended → now.taken file ≡ length (bytes_of start file)
+    pub written_length : now.written_length out.Result ≡ start.written_length out.Result + length w
+    pub shown : IsTrue now.shown → ShownMid file start now ended w
+
+  -- Bytes b were taken, the input has or has not ended with them, and w was written so far.
+  pub record Fed (file : ℕ) (start now : Seen) (b : List ℕ) (ended : Bool) (w : List ℕ) : Type 0 where
+    pub frame : Frame file out.Result start now
+    pub taken : IsTrue now.told → b ≡ take (now.taken file) (bytes_of start file)
+    pub told : IsTrue now.told → ToldMid file start now ended w
+
+  -- Before a read: bytes b were taken, they have no outcome, and all that can be written for them was written.
+  pub record Running (file : ℕ) (start now : Seen) (b : List ℕ) : Type 0 where
+    pub meaning : IsMeaning written outcome
+    pub fed : Fed file start now b false (written b false)
+    pub going : outcome b false ≡ None
+    pub within : length b ≤ 2 ^ 40
+
+  module _ (Stands : List ℕ → Bool → List ℕ → Type 0) (file : ℕ) (start now : Seen) where
+    -- the call ends with this status, and where it is Ok, the whole file was taken
+    pub record Stops (s : Status) : Type 0 where
+      pub transforms : Transforms written outcome file start now s
+      pub whole : s ≡ status.Ok → TookWhole Stands written outcome file start now
+
+    -- after writing: the loop goes on, or there is an outcome or a fault
+    abbrev pub AfterFlush : List ℕ → Bool → Option Status → Type 0
+    AfterFlush b ended None = (ended ≡ false) × Running file start now b × Stands b false (written b false)
+    AfterFlush b ended (Some s) = Stops s
+
+    -- after a turn: the loop goes on with the bytes that it took, or ends
+    abbrev pub AfterTurn : List ℕ → Option Status → Type 0
+    AfterTurn b None = (piece : List ℕ) × (1 ≤ length piece) × Running file start now (b ++ piece) × Stands (b ++ piece) false (written (b ++ piece) false)
+    AfterTurn b (Some s) = Stops s

@@ -1,0 +1,135 @@
+// The reading loop: before each read all that can be written is written.
+ghost use Rattle.std.specs.Prelude.{◌≡◌, ◌<◌, ◌++◌, [], List, ℕ, Bool, false, IsTrue, OnOk, length};
+ghost use Rattle.sx_desk.specs.Desk.{Seen};
+ghost use Rattle.sx_desk.specs.declared.desk.Out.TheVariants as out;
+ghost use Rattle.sx_reading.specs.Frame.{Frame};
+ghost use Rattle.sx_reading.specs.Headline.{WrittenFor, OutcomeFor, Transforms, TookWhole};
+ghost use Rattle.sx_reading.specs.Turn.{Fed, Running, AfterFlush, AfterTurn, is_end};
+ghost use Rattle.sx_reading.specs.declared.status.Status.TheVariants as status;
+
+use crate::send::write_all;
+use crate::{Consumer, Input, Status};
+use std::alloc::{AllocError, Global};
+use sx_desk::{Desk, Out};
+use sx_events::{DocFault, Which};
+
+/// The most bytes that one read takes.
+const PIECE: usize = 65_536;
+
+/// The most reads behind which bytes have no outcome yet: each takes a byte at least.
+const MOST_READS: u64 = 1 << 40;
+
+// Feeds the consumer; no bytes say that the input has ended.
+fn advance<C: Consumer>(consumer: &mut C, piece: &[u8]) -> Result<(), AllocError>
+    ensures fed { OnOk result ((written : WrittenFor) (outcome : OutcomeFor) (b w : List ℕ) → C.stands consumer.old written outcome b false w
+        → C.stands consumer.new written outcome (b ++ piece.now) (is_end piece.now) w) }
+    ensures keeps { C.keeps consumer.old consumer.new }
+{
+    if piece.is_empty() {
+        consumer.finish()
+    } else {
+        consumer.feed(piece)
+    }
+}
+
+// Writes all that can be written, and says how the loop ends where it does.
+fn flush<D: Desk, C: Consumer>(desk: &mut D, consumer: &mut C) -> Option<Status>
+    ensures frame { (file : ℕ) → Frame file out.Result (D.seen desk.old) (D.seen desk.new) }
+    ensures after { (written : WrittenFor) (outcome : OutcomeFor) (file : ℕ) (start : Seen) (b w : List ℕ) (ended : Bool)
+        → Fed written outcome file start (D.seen desk.old) b ended w
+        → C.stands consumer.old written outcome b ended w
+        → AfterFlush written outcome (C.stands consumer.new written outcome) file start (D.seen desk.new) b ended result }
+    ensures keeps { C.keeps consumer.old consumer.new }
+{
+    match write_all(desk, Out::Result, consumer.output()) {
+        Ok(()) => {}
+        Err(_) => return Some(Status::WriteFault),
+    }
+    consumer.clear_output();
+    match consumer.outcome() {
+        Some(outcome) => Some(outcome.status()),
+        None => None,
+    }
+}
+
+// Reads once, and writes all that can be written then.
+fn take_turn<D: Desk, C: Consumer>(
+    file: u32,
+    desk: &mut D,
+    consumer: &mut C,
+    buffer: &mut [u8],
+) -> Option<Status>
+    requires room { 0 < length buffer.old }
+    requires given { file < length (D.seen desk.old).opened }
+    ensures frame { Frame file out.Result (D.seen desk.old) (D.seen desk.new) }
+    ensures after { (written : WrittenFor) (outcome : OutcomeFor) (start : Seen) (b : List ℕ)
+        → Running written outcome file start (D.seen desk.old) b
+        → C.stands consumer.old written outcome b false (written b false)
+        → AfterTurn written outcome (C.stands consumer.new written outcome) file start (D.seen desk.new) b result }
+    ensures keeps { C.keeps consumer.old consumer.new }
+{
+    let count = match desk.read(file, buffer) {
+        Ok(count) => count,
+        Err(_) => return Some(Status::ReadFault),
+    };
+    match advance(consumer, &buffer[..count]) {
+        Ok(()) => {}
+        Err(_) => return Some(Status::OutOfMemory),
+    }
+    flush(desk, consumer)
+}
+
+// Goes on until the bytes have an outcome or the desk fails.
+fn run<D: Desk, C: Consumer>(file: u32, desk: &mut D, consumer: &mut C, buffer: &mut [u8]) -> Status
+    requires room { 0 < length buffer.old }
+    requires given { file < length (D.seen desk.old).opened }
+    requires untouched { IsTrue (D.seen desk.old).told → (D.seen desk.old).taken file ≡ 0 }
+    ensures frame { Frame file out.Result (D.seen desk.old) (D.seen desk.new) }
+    ensures runs { (written : WrittenFor) (outcome : OutcomeFor) → C.stands consumer.old written outcome [] false []
+        → Transforms written outcome file (D.seen desk.old) (D.seen desk.new) result }
+    ensures whole { (written : WrittenFor) (outcome : OutcomeFor) → C.stands consumer.old written outcome [] false [] → result ≡ status.Ok
+        → TookWhole (C.stands consumer.new written outcome) written outcome file (D.seen desk.old) (D.seen desk.new) }
+    ensures keeps { C.keeps consumer.old consumer.new }
+{
+    match flush(desk, consumer) {
+        Some(status) => return status,
+        None => {}
+    }
+    let mut count: u64 = 0;
+    'reads: while count <= MOST_READS {
+        match take_turn(file, desk, consumer, buffer) {
+            Some(status) => return status,
+            None => count += 1,
+        }
+    }
+    Status::Limit {
+        input: Input::Document,
+        fault: DocFault {
+            which: Which::Bytes,
+            line: 0,
+        },
+    }
+}
+
+/// Runs a consumer on an opened file of which nothing was taken: feeds it the bytes as they are read, and writes to
+/// the result, before each read, all that it gives.
+pub fn transfer<D: Desk, C: Consumer>(
+    alloc: Global,
+    file: u32,
+    desk: &mut D,
+    consumer: &mut C,
+) -> Status
+    requires given { file < length (D.seen desk.old).opened }
+    requires untouched { IsTrue (D.seen desk.old).told → (D.seen desk.old).taken file ≡ 0 }
+    ensures frame { Frame file out.Result (D.seen desk.old) (D.seen desk.new) }
+    ensures runs { (written : WrittenFor) (outcome : OutcomeFor) → C.stands consumer.old written outcome [] false []
+        → Transforms written outcome file (D.seen desk.old) (D.seen desk.new) result }
+    ensures whole { (written : WrittenFor) (outcome : OutcomeFor) → C.stands consumer.old written outcome [] false [] → result ≡ status.Ok
+        → TookWhole (C.stands consumer.new written outcome) written outcome file (D.seen desk.old) (D.seen desk.new) }
+    ensures keeps { C.keeps consumer.old consumer.new }
+{
+    match vec![in alloc; 0u8; PIECE] {
+        Ok(mut buffer) => run(file, desk, consumer, &mut buffer),
+        Err(_) => Status::OutOfMemory,
+    }
+}
