@@ -1,96 +1,73 @@
 #!/usr/bin/env python3
-"""Copies random small documents by the program and by the rules of the README, read anew here, and compares both.
+"""Copies random small documents by the program and by the rules, and compares what is written, the line on the diagnostic
+output and the status.
 
 usage: copy_by_the_rules.py PROGRAM [SEED]
 """
 import random
-import re
 import subprocess
 import sys
 import tempfile
 
-DEPTH = 200
-LINE = 1_048_576
+from rules import XML, copy_by_the_rules
+
+NAMES = ["a", "b", "Ab", "p:a", "q:b", "é", "p:x-1", "xml:a"]
+TEXTS = ["", "x", "hello world", "~ !", "\\n", "a\\\\b", "\\012", "\\351", "\\#8364;", "\\#65;z", "é€𐐀", " ", "\t", "\\177"]
+FAULTY = [
+    b"", b"x", b"(a:", b"(", b")", b"(1", b"-a\\b", b"-\\|", b"-\\400", b"-\\000", b"-\\#0;", b"-\\#55296;", b"-\\#;", b"-\\", b"-\\#1114112;", b"-\\9",
+    b"Cx", b"A", b"Aa", b"Aa CDAT x", b"A1 CDATA x", b"Aa IMPLIED x", b"Aa CDATA \\|", b"(a b", b"-\x80", b"-a\0", b"?", b"? x", b"?p:i x",
+    b"&e", b"{s", b"}s", b"Da x", b"aN x", b"(a:b:c", b"-\xed\xa0\x80", b"_\xff", b"L\x00",
+]
+MISPLACED = [b"(a", b")a", b"-t", b"C", b"?pi", b"Aa CDATA 1", b"Aa IMPLIED", b"L1", b"-"]
+DECLARATIONS = [
+    "xmlns CDATA urn:a", "xmlns CDATA urn:b", "xmlns CDATA ", "xmlns:p CDATA urn:p", "xmlns:p CDATA urn:q", "xmlns:q CDATA urn:q", "xmlns:q CDATA urn:p",
+    "xmlns:ns0 CDATA urn:n",
+]
+BAD_DECLARATIONS = ["xmlns:p CDATA ", "xmlns:xmlns CDATA u", "xmlns:xml CDATA u", "xmlns:z CDATA " + XML, "xmlns:xml CDATA " + XML, "xmlns:p CDATA", "xmlns IMPLIED"]
 
 
-def lines_of(data):
-    """The lines of some bytes; a rest behind the last newline that is not empty is a line."""
-    parts = data.split(b"\n")
-    return parts[:-1] + [part for part in parts[-1:] if part]
-
-
-def events_of(data):
-    """The events of a document up to its first line at fault, and whether it is whole."""
-    events, opened, has_root, conformed = [], [], False, False
-    for line in lines_of(data):
-        fits = False
-        if len(line) > LINE or conformed:
-            pass
-        elif re.fullmatch(rb"\([A-Za-z]+", line):
-            fits = len(opened) < DEPTH if opened else not has_root
-            if fits:
-                opened.append(line[1:])
-                has_root = True
-                events.append((b"(", line[1:]))
-        elif re.fullmatch(rb"\)[A-Za-z]+", line):
-            fits = bool(opened) and opened[-1] == line[1:]
-            if fits:
-                events.append((b")", opened.pop()))
-        elif re.fullmatch(rb"-[ -\[\]-~]+", line):
-            fits = bool(opened) and events[-1][0] != b"-"
-            if fits:
-                events.append((b"-", line[1:]))
-        elif line == b"C":
-            fits = conformed = has_root and not opened
-        if not fits:
-            return events, False
-    return events, has_root and not opened
-
-
-def printed(events, is_whole):
-    """The bytes of a result. A start at the end of one that is not whole is withheld."""
-    if not is_whole and events and events[-1][0] == b"(":
-        events = events[:-1]
-    written, after_text = b"", False
-    for kind, text in events:
-        if kind == b"-":
-            written += text if after_text else b"-" + text
-        else:
-            written += (b"\n" if after_text else b"") + kind + text + b"\n"
-        after_text = kind == b"-"
-    if is_whole:
-        written += (b"\n" if after_text else b"") + b"C\n"
-    return written
-
-
-def by_the_rules(data):
-    """The bytes written for a document, and the status."""
-    events, is_whole = events_of(data)
-    return printed(events, is_whole), 0 if is_whole else 4
+def attributes(rng):
+    """Attribute lines for a start: now and then some that clash."""
+    lines = []
+    if rng.random() < 0.5:
+        lines += rng.sample(DECLARATIONS, rng.choice([1, 1, 1, 2]))
+    if rng.random() < 0.02:
+        lines.append(rng.choice(BAD_DECLARATIONS))
+    for name in rng.sample(NAMES, rng.choice([0, 0, 0, 1, 2, 3])):
+        kind = rng.choice(["CDATA", "TOKEN", "ID", "NOTATION", "ENTITY"])
+        lines.append(name + " " + rng.choice([f"{kind} " + rng.choice(TEXTS), kind, "IMPLIED"]))
+    rng.shuffle(lines)
+    return ["A" + line for line in lines]
 
 
 def random_document(rng):
-    faulty = [b"", b"x", b"(a1", b"(", b")", b"-", b"-a\\b", b"Cx", b"A", b"(a b", b"-\x7f", b"-\x80", b"?pi"]
-    misplaced = [b"(a", b")a", b"-t", b"C"]
-    lines, opened, has_root, last = [], [], False, b""
-    for _ in range(rng.randrange(15)):
+    """A document of some lines, which may be broken off. The first element binds the prefixes that names use, most times."""
+    lines, opened, has_root = [], [], False
+    for _ in range(rng.randrange(25)):
         chance = rng.random()
-        if chance < 0.05:
-            lines.append(rng.choice(faulty if chance < 0.03 else misplaced))
+        if chance < 0.04:
+            lines.append(rng.choice(FAULTY if chance < 0.02 else MISPLACED))
+        elif chance < 0.15:
+            lines.append(rng.choice([b"L12", b"#comment", b"s\\x", b"_ \xff", b"i", b"e", b"?pi", b"?xml version=\"1.0\"", b"?go \\n x\\\\", b"?go  "]))
         elif not opened and has_root:
-            lines.append(b"C")
+            if rng.random() < 0.9:
+                break
+            lines.append(b"?pi")
         elif not opened or rng.random() < 0.4:
-            name = rng.choice([b"a", b"b", b"Ab"])
-            lines.append(b"(" + name)
-            opened.append(name)
-            has_root, last = True, b"("
-        elif rng.random() < 0.4 and last != b"-":
-            lines.append(b"-" + rng.choice([b"x", b"hello world", b"~ !"]))
-            last = b"-"
+            name = rng.choice(NAMES[:-1])
+            if not has_root and rng.random() < 0.9:
+                lines += [b"Axmlns:p CDATA urn:p", b"Axmlns:q CDATA urn:q"]
+                lines += [line.encode() for line in attributes(rng) if not line.startswith("Axmlns")]
+            else:
+                lines += [line.encode() for line in attributes(rng)]
+            lines.append(b"(" + name.encode())
+            opened.append(name.encode())
+            has_root = True
+        elif rng.random() < 0.5:
+            lines.append(b"-" + rng.choice(TEXTS).encode())
         else:
             lines.append(b")" + opened.pop())
-            last = b")"
-    if rng.random() < 0.5:
+    if rng.random() < 0.6:
         lines.extend(b")" + name for name in reversed(opened))
         if rng.random() < 0.5:
             lines.append(b"C")
@@ -100,18 +77,20 @@ def random_document(rng):
 def main():
     program = sys.argv[1]
     rng = random.Random(int(sys.argv[2]) if len(sys.argv) > 2 else 1)
+    whole = 0
     with tempfile.NamedTemporaryFile() as file:
-        for number in range(500):
+        for number in range(1500):
             data = random_document(rng)
             file.seek(0)
             file.truncate()
             file.write(data)
             file.flush()
             run = subprocess.run([program, "copy", file.name], capture_output=True, check=False)
-            expected = by_the_rules(data)
-            if (run.stdout, run.returncode) != expected:
-                sys.exit(f"document {number}: {data!r} gave {run.stdout!r}, {run.returncode}, and not {expected!r}")
-    print("500 documents: as the rules say")
+            expected = copy_by_the_rules(data)
+            if (run.stdout, run.stderr, run.returncode) != expected:
+                sys.exit(f"document {number}: {data!r} gave {run.stdout!r}, {run.stderr!r}, {run.returncode}, and not {expected!r}")
+            whole += run.returncode == 0
+    print(f"1500 documents, {whole} of them whole: as the rules say")
 
 
 if __name__ == "__main__":

@@ -11,86 +11,93 @@ import subprocess
 import sys
 import tempfile
 
-from copy_by_the_rules import LINE, events_of, lines_of, printed, random_document
+from copy_by_the_rules import random_document
+from rules import Fault, Result, events_of
 
 SHEET = 1_048_576
-HEAD = [
-    b"Axmlns:xsl CDATA http://www.w3.org/1999/XSL/Transform",
-    b"Axmlns:xs CDATA http://www.w3.org/2001/XMLSchema",
-    b"Aversion CDATA 3.0",
-    b"(xsl:stylesheet",
-    b"Astreamable CDATA yes",
-    b"Aon-no-match CDATA text-only-copy",
-    b"(xsl:mode",
-    b")xsl:mode",
-]
-FORM = re.compile(rb"[()][A-Za-z:-]+|-[ -\[\]-~]+|A[A-Za-z:-]+ CDATA [ -\[\]-~]*|C")
+XSLT = "http://www.w3.org/1999/XSL/Transform"
+LETTERS = re.compile("[A-Za-z]+")
 
 
 # ---- stylesheets
 
 
 class Broken(Exception):
-    """No thin stylesheet begins with the lines up to this one."""
+    """No thin stylesheet has the event that stands on this line."""
 
 
-class Lines:
-    """The lines of a stylesheet, read one after the other."""
-
-    def __init__(self, lines):
-        self.lines, self.count = lines, 0
-
-    def next(self, pattern):
-        """Takes a line that matches, and answers what its group matched and its number."""
-        line = self.lines[self.count] if self.count < len(self.lines) else None
-        found = line is not None and re.fullmatch(pattern, line)
-        if not found:
-            raise Broken(self.count + 1)
-        self.count += 1
-        return found.group(found.lastindex or 0), self.count
-
-    def is_next(self, pattern):
-        return self.count < len(self.lines) and bool(re.fullmatch(pattern, self.lines[self.count]))
-
-    def is_end(self):
-        return self.count == len(self.lines)
+def token(event):
+    """What an event of a stylesheet says, as a tuple that begins with its kind; nothing where it is no thin stylesheet's."""
+    kind, _, *rest = event
+    if kind != "start":
+        return (kind, *rest)
+    (prefix, uri, local), attributes = rest
+    values = {name[2] if not name[1] else None: value for name, value in attributes}
+    if uri != XSLT:
+        return ("literal", rest[0]) if not prefix and LETTERS.fullmatch(local) and not attributes else None
+    if local == "stylesheet" and values == {"version": "3.0"}:
+        return ("stylesheet",)
+    if local == "mode" and set(values) == {"streamable", "on-no-match"} and values["streamable"] == "yes":
+        return ("mode", values["on-no-match"]) if values["on-no-match"] in ("text-only-copy", "shallow-copy") else None
+    if local == "template" and set(values) == {"match"} and LETTERS.fullmatch(values["match"]):
+        return "template", values["match"]
+    return (local,) if local in ("text", "apply-templates") and not attributes else None
 
 
-def body_of(lines, end):
-    """The parts of a body up to the line of its end, each a tuple of its kind, its line and what it has."""
+class Tokens:
+    """What the events of a stylesheet say, one behind the other, without what does not count."""
+
+    def __init__(self, events):
+        self.tokens, inside, self.place = [], False, 0
+        for event in events:
+            here = token(event)
+            if event[0] == "instruction" or event[0] == "text" and not inside and not event[2].strip(" \t\r\n"):
+                continue
+            self.tokens.append((here, event[1]))
+            inside = here == ("text",) if event[0] != "text" else inside
+
+    def next(self, *kinds):
+        """Takes the next, which is of one of these kinds, and answers it and its line."""
+        here, line = self.tokens[self.place]
+        is_said = here is not None and here[0] == "text" and len(here) == 2
+        kind = None if here is None else "said" if is_said else here[0]
+        if kind not in kinds:
+            raise Broken(line)
+        self.place += 1
+        return kind, here[1:], line
+
+
+def body_of(tokens, *end):
+    """The parts of a body up to its end, each a tuple of its kind, its line and what it has."""
     parts = []
-    while not lines.is_next(end):
-        if lines.is_next(rb"\([A-Za-z]+"):
-            name, line = lines.next(rb"\((.*)")
-            parts.append(("element", line, name, body_of(lines, rb"\)" + name)))
-        elif lines.is_next(rb"\(xsl:text"):
-            line = lines.next(rb".*")[1]
-            text = lines.next(rb"-(.*)")[0] if lines.is_next(rb"-.*") else b""
-            lines.next(rb"\)xsl:text")
-            parts.append(("text", line, text))
+    while True:
+        kind, rest, line = tokens.next("literal", "text", "apply-templates", "end")
+        if kind == "end":
+            return parts
+        if kind == "literal":
+            parts.append(("element", line, rest[0], body_of(tokens)))
+        elif kind == "text":
+            kind, said, _ = tokens.next("said", "end")
+            parts.append(("text", line, said[0] if kind == "said" else ""))
+            if kind == "said":
+                tokens.next("end")
         else:
-            line = lines.next(rb"\(xsl:apply-templates")[1]
-            lines.next(rb"\)xsl:apply-templates")
+            tokens.next("end")
             parts.append(("apply", line))
-    lines.next(end)
-    return parts
 
 
-def templates_of(lines):
-    """The templates of a thin stylesheet: the name that each matches, its line and its body."""
-    templates = []
-    for line in HEAD:
-        lines.next(re.escape(line))
-    while not lines.is_next(rb"\)xsl:stylesheet"):
-        name = lines.next(rb"Amatch CDATA ([A-Za-z]+)")[0]
-        line = lines.next(rb"\(xsl:template")[1]
-        templates.append((name, line, body_of(lines, rb"\)xsl:template")))
-    lines.next(rb"\)xsl:stylesheet")
-    if not lines.is_end():
-        lines.next(rb"C")
-    if not lines.is_end():
-        raise Broken(lines.count + 1)
-    return templates
+def sheet_of(events):
+    """Whether a thin stylesheet copies, and its templates: the name that each matches, its line and its body."""
+    tokens, templates = Tokens(events), []
+    tokens.next("stylesheet")
+    mode = tokens.next("mode")[1][0]
+    tokens.next("end")
+    while True:
+        kind, rest, line = tokens.next("template", "end")
+        if kind == "end":
+            tokens.next("close")
+            return mode == "shallow-copy", templates
+        templates.append((rest[0], line, body_of(tokens)))
 
 
 def applies(part):
@@ -104,80 +111,103 @@ def culprits(line, body):
 
 
 def read_by_the_rules(data):
-    """The templates of a stylesheet and nothing; or nothing, and the line of its fault with the status."""
-    lines = lines_of(data)
-    if len(data) > SHEET or not all(len(line) <= LINE and FORM.fullmatch(line) for line in lines):
-        return None, (b"error sheet\n", 4)
+    """A stylesheet and nothing; or nothing, and the line of its fault with the status."""
+    events, fault = events_of(data)
+    if len(data) > SHEET and not (fault and fault.line <= data[:SHEET].count(b"\n")):
+        fault = Fault("Bytes", data[:SHEET].count(b"\n") + 1)
+    if fault:
+        return None, (fault.message("sheet"), fault.status())
     try:
-        templates = templates_of(Lines(lines))
+        is_copying, templates = sheet_of(events)
     except Broken as broken:
         return None, (b"error XTSE0010 line %d\n" % broken.args[0], 2)
     found = [line for _, start, body in templates for line in culprits(start, body)]
     if found:
         return None, (b"error XTSE3430 line %d\n" % min(found), 2)
-    return templates, None
+    return (is_copying, templates), None
 
 
 # ---- documents and results
 
 
 class Waits(Exception):
-    """What comes next stands in an open element."""
+    """What comes next stands in an open node."""
 
 
 def tree_of(events):
-    """The root and its text and elements; an element is its name, its children and whether it is open."""
+    """The document node. A node is its start (nothing for the document node), its children and whether it is open; other
+    children are events."""
     document = [None, [], True]
     opened = [document]
-    for kind, text in events:
-        if kind == b"(":
-            opened.append([text, [], True])
+    for event in events:
+        if event[0] == "start":
+            opened.append([event, [], True])
             opened[-2][1].append(opened[-1])
-        elif kind == b")":
+        elif event[0] == "end":
             opened.pop()[2] = False
+        elif event[0] == "close":
+            document[2] = False
         else:
-            opened[-1][1].append(text)
+            opened[-1][1].append(event)
     return document
 
 
-def apply(templates, node, result):
-    """Templates are applied to the children of a node."""
-    _, children, is_open = node
-    for child in children:
-        if isinstance(child, bytes):
-            result.append((b"-", child))
-            continue
-        chosen = [body for name, _, body in templates if name == child[0]]
-        run(templates, chosen[-1] if chosen else [("apply", 0)], child, result)
-    if is_open:
-        raise Waits
+class Run:
+    def __init__(self, sheet):
+        (self.is_copying, self.templates), self.result = sheet, Result()
 
+    def apply(self, node):
+        """Templates are applied to the children of a node."""
+        _, children, is_open = node
+        for child in children:
+            if isinstance(child, list):
+                self.element(child)
+            elif child[0] == "text":
+                self.result.text(child[2])
+            elif self.is_copying:
+                self.result.instruction(*child[2:])
+        if is_open:
+            raise Waits
 
-def run(templates, body, node, result):
-    for part in body:
-        if part[0] == "apply":
-            apply(templates, node, result)
-        elif part[0] == "text":
-            result.extend([(b"-", part[2])] if part[2] else [])
+    def element(self, node):
+        _, _, name, attributes = node[0]
+        chosen = [body for match, _, body in self.templates if (match, "") == (name[2], name[1])]
+        if chosen:
+            self.body(chosen[-1], node)
+        elif self.is_copying:
+            self.result.start(name)
+            for attribute_name, value in attributes:
+                self.result.attribute(attribute_name, value)
+            self.apply(node)
+            self.result.end()
         else:
-            result.append((b"(", part[2]))
-            run(templates, part[3], node, result)
-            result.append((b")", part[2]))
+            self.apply(node)
+
+    def body(self, parts, node):
+        for part in parts:
+            if part[0] == "apply":
+                self.apply(node)
+            elif part[0] == "text":
+                self.result.text(part[2])
+            else:
+                self.result.start(part[2])
+                self.body(part[3], node)
+                self.result.end()
 
 
 def by_the_rules(sheet, data):
     """What is written, the line on the diagnostic output, and the status."""
-    templates, fault = read_by_the_rules(sheet)
-    if fault:
-        return b"", *fault
-    events, is_whole = events_of(data)
-    document, result = tree_of(events), []
-    document[2] = not is_whole
+    accepted, refused = read_by_the_rules(sheet)
+    if refused:
+        return b"", *refused
+    events, fault = events_of(data)
+    run = Run(accepted)
     try:
-        apply(templates, document, result)
+        run.apply(tree_of(events))
+        run.result.close()
     except Waits:
         pass
-    return printed(result, is_whole), b"" if is_whole else b"error document\n", 0 if is_whole else 4
+    return run.result.bytes, fault.message("document") if fault else b"", fault.status() if fault else 0
 
 
 # ---- random stylesheets
@@ -190,49 +220,56 @@ def random_body(rng, depth, may_apply):
         chance = rng.random()
         free = may_apply and (not applied or rng.random() < 0.05)
         if chance < 0.4 and depth:
-            name = rng.choice([b"a", b"b", b"Out", b"p"])
+            name = rng.choice(["a", "b", "Out", "p"])
             inner, inside = random_body(rng, depth - 1, free)
-            lines += [b"(" + name, *inner, b")" + name]
+            lines += [*rng.choice([[], [], [], ["Axmlns CDATA urn:out"]]), "(" + name, *inner, ")" + name]
             applied = applied or inside
         elif chance < 0.6:
-            lines += [b"(xsl:text", *rng.choice([[], [b"-t"], [b"-two words"]]), b")xsl:text"]
+            lines += ["(X:text", *rng.choice([[], ["-t"], ["-two words"], ["- \\n"], ["-é\\\\", "-more"]]), ")X:text"]
         elif free:
-            lines += [b"(xsl:apply-templates", b")xsl:apply-templates"]
+            lines += ["(X:apply-templates", ")X:apply-templates"]
             applied = True
+        if rng.random() < 0.1:
+            lines.append(rng.choice(["- \\n ", "?pi", "L3", "#x", "-"]))
     return lines, applied
 
 
 def random_sheet(rng):
-    odd = [b"", b"C", b"(a", b")a", b"-t", b"-", b"x", b"(xsl:text", b")xsl:template", b"(xsl:message", b"Amatch CDATA a", b"Amatch CDATA a1",
-           b"Aselect CDATA b", b"Amatch CDATA ", b"A CDATA a", b"(a1", b"(a-b:c", b"-a\\b", b"(xsl:apply-templates", b")xsl:apply-templates"]
-    lines = list(HEAD)
+    prefix = rng.choice(["xsl", "xsl", "t"])
+    odd = [
+        "", "C", "(a", ")a", "-t", "-", "x", "(X:text", ")X:template", "(X:message", "Amatch CDATA a", "Amatch CDATA a1", "Aselect CDATA b", "A CDATA a",
+        "(a1", "(q:b", "-a\\b", "(X:apply-templates", ")X:apply-templates", "?pi", "- ", "L2", "Axmlns CDATA urn:x", "Ax IMPLIED",
+    ]
+    mode = ["Astreamable CDATA yes", "Aon-no-match CDATA " + rng.choice(["text-only-copy", "shallow-copy", "shallow-copy"])]
+    lines = rng.choice([[], [], ['?xml version="1.0"'], ["L1 sheet"]]) + [f"Axmlns:{prefix} CDATA {XSLT}", "Aversion CDATA 3.0", "(X:stylesheet"]
+    lines += rng.sample(mode, 2) + ["(X:mode", ")X:mode"]
     for _ in range(rng.randrange(4)):
-        body = random_body(rng, 3, True)[0]
-        lines += [b"Amatch CDATA " + rng.choice([b"a", b"b", b"Ab"]), b"(xsl:template", *body, b")xsl:template"]
-    lines += [b")xsl:stylesheet", *rng.choice([[], [b"C"]])]
-    if rng.random() < 0.2:
-        place = rng.randrange(len(lines) + 1)
-        lines[place : place + rng.randrange(2)] = rng.choice([[], [rng.choice(odd)]])
-    if rng.random() < 0.05:
-        lines = lines[: rng.randrange(len(lines) + 1)]
-    return b"\n".join(lines) + (b"\n" if rng.random() < 0.7 else b"")
+        lines += ["Amatch CDATA " + rng.choice(["a", "b", "Ab"]), "(X:template", *random_body(rng, 3, True)[0], ")X:template", *rng.choice([[], ["-\\n"]])]
+    lines += [")X:stylesheet", *rng.choice([[], ["C"]])]
+    for _ in range(rng.choice([0, 0, 0, 1, 2])):
+        place = rng.randrange(len(lines))
+        lines[place : place + rng.choice([0, 1])] = rng.choice([[], [rng.choice(odd)]])
+    text = "\n".join(lines).replace("(X:", f"({prefix}:").replace(")X:", f"){prefix}:")
+    return text.encode() + (b"\n" if rng.random() < 0.8 else b"")
 
 
 def main():
     program = sys.argv[1]
     rng = random.Random(int(sys.argv[2]) if len(sys.argv) > 2 else 1)
+    statuses = {}
     with tempfile.TemporaryDirectory() as folder:
         names = [os.path.join(folder, name) for name in ("sheet", "document")]
-        for number in range(1000):
-            inputs = [random_sheet(rng), random_document(rng)]
+        for number in range(1500):
+            inputs = random_sheet(rng), random_document(rng)
             for name, data in zip(names, inputs):
                 with open(name, "wb") as file:
                     file.write(data)
-            ended = subprocess.run([program, "run", *names], capture_output=True, check=False)
-            answer, expected = (ended.stdout, ended.stderr, ended.returncode), by_the_rules(*inputs)
-            if answer != expected:
-                sys.exit(f"run {number}: {inputs[0]!r} on {inputs[1]!r} gave {answer!r}, and not {expected!r}")
-    print("1000 stylesheets and documents: as the rules say")
+            run = subprocess.run([program, "run", *names], capture_output=True, check=False)
+            expected = by_the_rules(*inputs)
+            if (run.stdout, run.stderr, run.returncode) != expected:
+                sys.exit(f"run {number}: {inputs!r} gave {run.stdout!r}, {run.stderr!r}, {run.returncode}, and not {expected!r}")
+            statuses[run.returncode] = statuses.get(run.returncode, 0) + 1
+    print(f"1500 runs, of statuses {dict(sorted(statuses.items()))}: as the rules say")
 
 
 if __name__ == "__main__":
