@@ -4,12 +4,27 @@ program=$here/crates/sx_cli/out/sx_cli
 work=$(mktemp -d)
 trap 'rm -rf "$work"' EXIT
 
-document() { # elements, each an order with a note, five lines
+document() { # elements, each an order with attributes and a note: one in a namespace, and escapes; eight lines
   awk -v n="$1" 'BEGIN {
-    print "(orders"
-    for (i = 0; i < n; i++) printf "(order\n(note\n-number %d, to be sent by the end of the week\n)note\n)order\n", i
+    print "Axmlns:t CDATA urn:text"; print "(orders"
+    for (i = 0; i < n; i++)
+      printf "Aid CDATA o%d\nAstate CDATA open\n(order\nAt:by CDATA post\n(note\n-number %d, to be sent\\nby the end of the \\\\week\n)note\n)order\n", i, i
     print ")orders"; print "C"
   }'
+}
+
+copied() { # of such a document: each note declares the prefix that the root's name does not use
+  sed -e 1d -e 's/^At:by /Axmlns:t CDATA urn:text\n&/'
+}
+
+as_xml() { # of such a document
+  awk '
+    function text(s) { gsub(/&/, "\\&amp;", s); gsub(/</, "\\&lt;", s); gsub(/\\n/, "\n", s); gsub(/\\\\/, "\\", s); return s }
+    /^A/ { s = substr($0, 2); k = index(s, " CDATA "); a = a " " substr(s, 1, k - 1) "=\"" text(substr(s, k + 7)) "\""; next }
+    /^\(/ { printf "<%s%s>", substr($0, 2), a; a = ""; next }
+    /^\)/ { printf "</%s>\n", substr($0, 2); next }
+    /^-/ { printf "%s", text(substr($0, 2)) }
+  '
 }
 
 measure() { # name, input, command..: what it writes is left in "$work/result"
@@ -18,7 +33,7 @@ measure() { # name, input, command..: what it writes is left in "$work/result"
   times=$( { /usr/bin/time -f '%e %M' "$@" >"$work/result"; } 2>&1)
   awk -v name="$name" -v size="$(wc -c <"$input")" -v times="$times" 'BEGIN {
     split(times, t, " ")
-    printf "%-10s %8.1f MB %7.2f s %8.1f MB/s %8d kB at most\n", name, size / 1e6, t[1], size / 1e6 / (t[1] > 0 ? t[1] : 0.01), t[2]
+    printf "%-14s %8.1f MB %7.2f s %8.1f MB/s %8d kB at most\n", name, size / 1e6, t[1], size / 1e6 / (t[1] > 0 ? t[1] : 0.01), t[2]
   }'
 }
 

@@ -1,5 +1,5 @@
 #!/usr/bin/env bash
-# bench/run.sh N: makes documents of N/10 and of N elements (each an order with a note, five lines), and runs a
+# bench/run.sh N: makes documents of N/10 and of N elements (each an order with a note, attributes, a namespace and escapes), and runs a
 # stylesheet on them that renames each element and puts a new one into each order: by the proved program, and, where it
 # is installed, in the same run by `xsltproc` with the same stylesheet and document as XML. Prints MB/s and peak resident
 # memory; with valgrind, also the program's instructions per element, as the slope between two small sizes.
@@ -30,12 +30,8 @@ END
 }
 
 result() { # elements: what the stylesheet makes of the document
-  document "$1" | sed -e 's/^\([()]\)orders$/\1deliveries/' -e 's/^(order$/(delivery\n(by\n-post\n)by/' -e 's/^)order$/)delivery/' \
+  document "$1" | sed -e '/^A/d' -e 's/^\([()]\)orders$/\1deliveries/' -e 's/^(order$/(delivery\n(by\n-post\n)by/' -e 's/^)order$/)delivery/' \
     -e 's/^\([()]\)note$/\1remark/'
-}
-
-as_xml() { # of a document
-  sed -e '/^C$/d' -e 's/^(\(.*\)$/<\1>/' -e 's/^)\(.*\)$/<\/\1>/' -e 's/^-//'
 }
 
 sheet_as_xml() {
