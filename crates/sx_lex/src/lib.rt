@@ -1,0 +1,14 @@
+//! The tokens of expressions: names, numbers, literals and marks, with their places in the text.
+#![tactic(auto)]
+
+mod kinds;
+mod lexing;
+mod literals;
+mod marks;
+mod names;
+mod numbers;
+#[cfg(test)]
+mod tests;
+
+pub use kinds::{LexFault, Token, TokenKind, Tokens};
+pub use lexing::tokens;
