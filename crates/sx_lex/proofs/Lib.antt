@@ -6,3 +6,4 @@ pub mod Digits
 pub mod Runs
 pub mod Colons
 pub mod Readings
+pub mod Unique

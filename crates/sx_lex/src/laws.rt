@@ -1,0 +1,20 @@
+// What a caller relies on, said of the definitions.
+ghost use Rattle.std.specs.Prelude.{◌≡◌, ℕ, List};
+ghost use Rattle.std.specs.Str.{IsUtf8};
+ghost use Rattle.sx_lex.specs.Laws.{AreCuts, AreSpans};
+ghost use Rattle.sx_lex.specs.Tokens.{AreTokens, BreaksAt};
+ghost use Rattle.sx_lex.specs.declared.kinds.Token.{Token as AnyToken};
+
+/// A text has one list of tokens at most; it has none where it breaks, and it breaks at one offset only.
+pub fn one_reading()
+    ensures tokens { (text : List ℕ) (ts us : List AnyToken) → AreTokens 0 text ts → AreTokens 0 text us → ts ≡ us }
+    ensures either { (text : List ℕ) (ts : List AnyToken) (offset : ℕ) → AreTokens 0 text ts → BreaksAt 0 text offset → ⊥ }
+    ensures offset { (text : List ℕ) (m n : ℕ) → BreaksAt 0 text m → BreaksAt 0 text n → m ≡ n }
+{}
+
+/// The spans of tokens are in order, not empty and within the text, and what stands between them is white space. A text may be
+/// cut at both ends of each.
+pub fn spans()
+    ensures spans { (text : List ℕ) (ts : List AnyToken) → AreTokens 0 text ts → AreSpans text 0 ts }
+    ensures cuts { (text : List ℕ) (ts : List AnyToken) → IsUtf8 text → AreTokens 0 text ts → AreCuts text ts }
+{}
