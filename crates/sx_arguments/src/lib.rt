@@ -6,6 +6,8 @@ pub mod laws;
 mod rounding;
 mod signature;
 mod span;
+#[cfg(test)]
+mod tests;
 
 pub use arguments::{number, positions, text};
 pub use rounding::{ceiling, floor, round};
