@@ -1,3 +1,4 @@
 pub mod Arguments
 pub mod Positions
+pub mod Ranges
 pub mod Signature
