@@ -1,0 +1,4 @@
+pub mod Calls
+pub mod Characters
+pub mod Pieces
+pub mod Signatures

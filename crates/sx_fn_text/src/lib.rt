@@ -1,0 +1,11 @@
+//! The functions of expressions on texts, exactly as they are defined on characters.
+#![tactic(auto)]
+
+mod calls;
+mod characters;
+mod pieces;
+mod places;
+mod signatures;
+
+pub use calls::call_text;
+pub use signatures::signature_text;
