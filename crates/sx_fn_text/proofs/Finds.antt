@@ -25,7 +25,7 @@ bytes_eq_same [] = refl
 bytes_eq_same (x ∷ xs) = rw (eq-eqb x x refl) (bytes_eq_same xs)
 
 -- a front and an end, as tests and as equations
-front_of : (s t : List ℕ) → starts_with nat_eq s t ≡ true → s ≡ t ++ drop (length t) s
+pub front_of : (s t : List ℕ) → starts_with nat_eq s t ≡ true → s ≡ t ++ drop (length t) s
 front_of s t h = sym (take-append-drop (length t) s) ∙ ap (λ l. l ++ drop (length t) s) (sym (same_text t (take (length t) s) (sym h)))
 
 front_is : (t rest : List ℕ) → starts_with nat_eq (t ++ rest) t ≡ true

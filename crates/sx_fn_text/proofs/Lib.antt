@@ -1,3 +1,4 @@
 mod Finds
 mod Prints
 mod Spaces
+mod Wholes

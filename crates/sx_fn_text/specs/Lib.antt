@@ -1,4 +1,5 @@
 pub mod Calls
 pub mod Characters
+pub mod Laws
 pub mod Pieces
 pub mod Signatures

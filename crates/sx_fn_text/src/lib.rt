@@ -3,6 +3,7 @@
 
 mod calls;
 mod characters;
+pub mod laws;
 mod pieces;
 mod places;
 mod signatures;

@@ -72,13 +72,13 @@ pub fn join(alloc: Global, atoms: &[Atom], separator: &str) -> Result<Text, Allo
     let Some((first, more)) = atoms.split_first() else {
         return Ok(Text::new(alloc));
     };
-    let mut out = String::new(alloc);
-    append_print(alloc, &mut out, first)?;
+    let mut joined = String::new(alloc);
+    append_print(alloc, &mut joined, first)?;
     for atom in more {
-        out.push_str(separator)?;
-        append_print(alloc, &mut out, atom)?;
+        joined.push_str(separator)?;
+        append_print(alloc, &mut joined, atom)?;
     }
-    Ok(Text::from_string(out))
+    Ok(Text::from_string(joined))
 }
 
 // Appends what is printed of an argument of one atom at most.

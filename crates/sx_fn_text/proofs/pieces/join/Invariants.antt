@@ -6,5 +6,5 @@ use Rattle.sx_fn_text.proofs.pieces.join.Given as goal
 
 abbrev pub invariant-loop-atom : goal.invariant-loop-atom
 invariant-loop-atom l =
-    string_bytes l.out ++ encode_utf8_all (behind (chars l.separator) (map print (drop l.atom-index l.more)))
-    ≡ string_bytes l.initial.out ++ encode_utf8_all (behind (chars l.separator) (map print l.more))
+    string_bytes l.joined ++ encode_utf8_all (behind (chars l.separator) (map print (drop l.atom-index l.more)))
+    ≡ string_bytes l.initial.joined ++ encode_utf8_all (behind (chars l.separator) (map print l.more))
