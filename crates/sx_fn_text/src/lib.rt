@@ -7,6 +7,8 @@ pub mod laws;
 mod pieces;
 mod places;
 mod signatures;
+#[cfg(test)]
+mod tests;
 
 pub use calls::call_text;
 pub use signatures::signature_text;
