@@ -32,12 +32,13 @@ number_argument (a ∷ []) = do
   Ok (Some n)
 number_argument (a ∷ b ∷ more) = Err code.Xpty0004
 
--- the same numbers as atoms
+-- the number that an atom is, as an atom
 abbrev pub number_atom : Atom → Result Atom Code
 number_atom a = do
   n ← number_of a
   Ok (atom_of n)
 
+-- the number that an argument is, as an atom
 abbrev pub number_answer : List Atom → Result (Option Atom) Code
 number_answer atoms = do
   n ← number_argument atoms

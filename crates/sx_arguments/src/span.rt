@@ -13,7 +13,7 @@ enum Chosen {
 }
 
 /// The positions, counted from 1, that the numbers of `substring` and `subsequence` select (XPath functions and operators
-/// 3.1, 5.4.3 and 14.1.9). Contracts see a span.
+/// 3.1, 5.4.3 and 14.1.8). Contracts see a span.
 #[derive(Drop)]
 pub struct Positions {
     chosen: Chosen,

@@ -42,30 +42,34 @@ concatenated (x ∷ xs) = do
 abbrev pub prints_joined : List ℕ → List Atom → List ℕ
 prints_joined separator atoms = joined separator (map (λ a. chars (text_of a)) atoms)
 
--- answers of one atom
+-- the text of characters as an answer
 abbrev pub string : List ℕ → List Atom
 string cs = atom.Str (encode_utf8_all cs) ∷ []
 
+-- a truth value as an answer
 abbrev pub truth : Bool → List Atom
 truth b = atom.Bool b ∷ []
 
--- what a function makes of its first argument, of two and of three; the first one that is no text gives the code
+-- what a function makes of its first argument, or the code where that is no text
 abbrev pub with_text : (List ℕ → List Atom) → List (List Atom) → Result (List Atom) Code
 with_text f args = do
   s ← text_at args 0
   Ok (f s)
 
+-- the first two arguments as texts; the first one that is none gives the code
 abbrev pub two_texts : List (List Atom) → Result (List ℕ × List ℕ) Code
 two_texts args = do
   s ← text_at args 0
   t ← text_at args 1
   Ok (s, t)
 
+-- what a function makes of two arguments
 abbrev pub with_two : (List ℕ → List ℕ → List Atom) → List (List Atom) → Result (List Atom) Code
 with_two f args = do
   p ← two_texts args
   Ok (f p.0 p.1)
 
+-- what a function makes of three arguments; the first one that is no text gives the code
 abbrev pub with_three : (List ℕ → List ℕ → List ℕ → List Atom) → List (List Atom) → Result (List Atom) Code
 with_three f args = do
   p ← two_texts args

@@ -4,20 +4,22 @@ use Rattle.std.specs.List.{starts_with, filter_map, position}
 use Rattle.std.specs.Option.{option_map}
 use Rattle.sx_atoms.specs.Lexical.{is_blank}
 
--- texts one behind another, with a separator between two (XPath functions and operators 3.1, 5.4.2)
+-- texts one behind another, with a separator before each (XPath functions and operators 3.1, 5.4.2)
 abbrev pub behind : List ℕ → List (List ℕ) → List ℕ
 behind separator [] = []
 behind separator (x ∷ xs) = separator ++ (x ++ behind separator xs)
 
+-- texts one behind another, with a separator between two (5.4.2)
 abbrev pub joined : List ℕ → List (List ℕ) → List ℕ
 joined separator [] = []
 joined separator (x ∷ xs) = x ++ behind separator xs
 
--- the words of a text that begins with a character of a word, by what follows it and the words of that
+-- words, the first one of which begins with one more character (5.4.5)
 abbrev pub longer : ℕ → List (List ℕ) → List (List ℕ)
 longer c [] = (c ∷ []) ∷ []
 longer c (word ∷ more) = (c ∷ word) ∷ more
 
+-- the words of a text that begins with a character of a word, by what follows it and the words of that (5.4.5)
 abbrev pub word_before : ℕ → List ℕ → List (List ℕ) → List (List ℕ)
 word_before c [] more = (c ∷ []) ∷ more
 word_before c (d ∷ cs) more = if is_blank d then (c ∷ []) ∷ more else longer c more
@@ -40,23 +42,25 @@ place_of t (c ∷ s) = if starts_with nat_eq (c ∷ s) t then Some 0 else option
 abbrev pub is_within : List ℕ → List ℕ → Bool
 is_within t s = is_some (place_of t s)
 
--- what stands before a place, and what stands behind the n characters from a place on; nothing where there is no place
+-- what stands before a place, and nothing where there is none (5.5.4)
 abbrev pub part_before : List ℕ → Option ℕ → List ℕ
 part_before s None = []
 part_before s (Some i) = take i s
 
+-- what stands behind the n characters from a place on, and nothing where there is no place (5.5.5)
 abbrev pub part_after : List ℕ → ℕ → Option ℕ → List ℕ
 part_after s n None = []
 part_after s n (Some i) = drop (i + n) s
 
--- what stands in s before the first place of t (5.5.4), and what stands behind it (5.5.5)
+-- what stands in s before the first place of t (5.5.4)
 abbrev pub before : List ℕ → List ℕ → List ℕ
 before s t = part_before s (place_of t s)
 
+-- what stands in s behind the first place of t (5.5.5)
 abbrev pub after : List ℕ → List ℕ → List ℕ
 after s t = part_after s (length t) (place_of t s)
 
--- what a character becomes that stands at such a place of m: it stays where there is none
+-- what a character becomes by its place: the one of t there, if t has it; and itself where there is no place (5.4.9)
 abbrev pub partner : ℕ → List ℕ → Option ℕ → Option ℕ
 partner c t None = Some c
 partner c t (Some i) = slice_get t i

@@ -11,14 +11,16 @@ use Rattle.sx_fn_text.specs.Calls.{printed, concatenated}
 abbrev pub onto : List ℕ → Bool → ℕ → List ℕ
 onto cs apart c = if apart then cs ++ 32 ∷ c ∷ [] else cs ++ c ∷ []
 
--- the words so far after one more character of a text, and whether they are at an end
+-- the words so far after one more character of a text
 abbrev pub next_text : List ℕ → Bool → ℕ → List ℕ
 next_text cs apart c = if is_blank c then cs else onto cs apart c
 
+-- whether there is a word so far
 abbrev pub is_begun : List ℕ → Bool
 is_begun [] = false
 is_begun (c ∷ cs) = true
 
+-- whether white space stands behind the words so far after one more character
 abbrev pub next_apart : List ℕ → ℕ → Bool
 next_apart cs c = if is_blank c then is_begun cs else false
 
