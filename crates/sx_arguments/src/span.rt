@@ -36,7 +36,7 @@ fn below(position: i128, length: usize) -> usize
 }
 
 impl Positions {
-    // Those from a number on; none where there is no number.
+    /// Those from a number on; none where there is no number.
     pub fn from_first(first: Option<i128>) -> Positions
         ensures { result ≡ span_after first }
     {
@@ -47,7 +47,7 @@ impl Positions {
         Positions { chosen }
     }
 
-    // As many as a second number says, from the first one on; none where there are not both.
+    /// As many as a second number says, from the first one on; none where there are not both.
     pub fn counted(first: Option<i128>, count: Option<i128>) -> Positions
         ensures { result ≡ span_counted first count }
     {
