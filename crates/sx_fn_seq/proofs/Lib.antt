@@ -1,0 +1,4 @@
+mod Bests
+mod Distinctness
+mod Orders
+mod Places

@@ -1,0 +1,7 @@
+use Rattle.std.proofs.Common.{◌≡◌, drop}
+use Rattle.sx_fn_seq.specs.Distinct.{distinct_of}
+use Rattle.sx_fn_seq.proofs.Distinctness.{kept_from}
+use Rattle.sx_fn_seq.proofs.distinct.distinct.Given as goal
+
+abbrev pub invariant-loop-item : goal.invariant-loop-item
+invariant-loop-item l = kept_from l.kept (drop l.item-index l.items) ≡ distinct_of l.items

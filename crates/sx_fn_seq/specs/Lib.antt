@@ -1,0 +1,9 @@
+pub mod Calls
+pub mod Distinct
+pub mod Extremes
+pub mod Order
+pub mod Parts
+pub mod Rounding
+pub mod Signatures
+pub mod Sums
+pub mod Truths

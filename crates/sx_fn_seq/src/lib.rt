@@ -1,0 +1,16 @@
+//! Functions on sequences, numbers and truth values: counts, sums, extremes, distinct values, roundings, parts and casts.
+#![tactic(auto)]
+
+mod answers;
+mod calls;
+mod distinct;
+mod extremes;
+mod order;
+mod parts;
+mod rounding;
+mod signatures;
+mod sums;
+mod truths;
+
+pub use calls::call_seq;
+pub use signatures::{is_answerable, signature_seq};
