@@ -10,6 +10,8 @@ mod parts;
 mod rounding;
 mod signatures;
 mod sums;
+#[cfg(test)]
+mod tests;
 mod truths;
 
 pub use calls::call_seq;
