@@ -1,7 +1,8 @@
 -- The best of some items, found item by item, is the first that none of them beats.
 use Rattle.std.proofs.Common.{◌≡◌, ◌⊎◌, ℕ, ◌<◌, Bool, true, false, cond, ◌||◌, List, [], ◌∷◌, ◌++◌, length, get_or, take, drop, ◌-◌, Result, Ok, Err, ℤ, refl, ap, sym, ◌∙◌, subst, inl, inr, append-nil, append_assoc, arith}
-use Rattle.std.specs.List.{list_any}
+use Rattle.std.specs.List.{list_any, All, Contains}
 use Rattle.std.proofs.lemmas.List.{take_all}
+use Rattle.std.proofs.lemmas.List.Elements.{All-nil, All-cons, Contains-push, Contains-append_left, Contains-append_right}
 use Rattle.std.proofs.lemmas.List.Folds.{list_any-append}
 use Rattle.sx_atoms.specs.Arithmetic.{dec}
 use Rattle.sx_atoms.specs.Casting.{decimal_from}
@@ -225,3 +226,47 @@ read_fails t a s e i h =
     by : (t : Bool) (r : Result ℤ Code) → (r >>= (λ z. Ok (atom.Dec (dec z)))) ≡ Err e → (r >>= (λ z. cond t (Err code.Forg0006) (Ok (atom.Dec (dec z))))) ≡ Err e
     by t (Ok z) g = absurd (cc)
     by t (Err d) g = cc
+
+-- the best is one of the items
+best_among : (o : CmpOp) (all cands : List Atom) (best : Atom) → first_unbeaten o all cands ≡ best ∷ [] → Contains cands best
+best_among o all [] best h = absurd (cc)
+best_among o all (c ∷ cands) best h = by (is_beaten o all c) h (λ g. best_among o all cands best g)
+  where
+    by : (t : Bool) → cond t (first_unbeaten o all cands) (c ∷ []) ≡ best ∷ [] → (first_unbeaten o all cands ≡ best ∷ [] → Contains cands best) → Contains (c ∷ cands) best
+    by true g k = Contains-append_right (c ∷ []) cands best (k g)
+    by false g k =
+        let e : best ≡ c = cc in
+        subst (λ (x : Atom). Contains (x ∷ cands) best) e (Contains-append_left (best ∷ []) cands best (Contains-push [] best))
+
+none_beats : (o : CmpOp) (xs : List Atom) (m : Atom) → is_beaten o xs m ≡ false → All (λ x. stands o x m ≡ false) xs
+none_beats o [] m h = All-nil (λ x. stands o x m ≡ false)
+none_beats o (x ∷ xs) m h = by (stands o x m) refl h (λ g. none_beats o xs m g)
+  where
+    by : (t : Bool) → stands o x m ≡ t → (t || is_beaten o xs m) ≡ false → (is_beaten o xs m ≡ false → All (λ y. stands o y m ≡ false) xs)
+        → All (λ y. stands o y m ≡ false) (x ∷ xs)
+    by true f g k = absurd (cc)
+    by false f g k = All-cons (λ y. stands o y m ≡ false) x xs f (k g)
+
+-- the answer is the first of the items that are compared
+chosen : (o : CmpOp) (item m : Atom) (rest xs : List Atom) → extreme_of o (item ∷ rest) ≡ Ok (m ∷ []) → all_compared (is_text item) (item ∷ rest) ≡ Ok xs
+    → first_unbeaten o xs xs ≡ m ∷ []
+chosen o item m rest xs h g =
+    let e : Ok (first_unbeaten o xs xs) ≡ Ok (m ∷ []) = sym (ap (λ (r : Result (List Atom) Code). r >>= (λ ys. Ok (first_unbeaten o ys ys))) g) ∙ h in
+    cc
+
+pub extreme_among : (o : CmpOp) (item m : Atom) (rest xs : List Atom) → extreme_of o (item ∷ rest) ≡ Ok (m ∷ []) → all_compared (is_text item) (item ∷ rest) ≡ Ok xs
+    → Contains xs m
+extreme_among o item m rest xs h g = best_among o xs xs m (chosen o item m rest xs h g)
+
+pub extreme_unbeaten : (o : CmpOp) (item m : Atom) (rest xs : List Atom) → extreme_of o (item ∷ rest) ≡ Ok (m ∷ []) → all_compared (is_text item) (item ∷ rest) ≡ Ok xs
+    → All (λ x. stands o x m ≡ false) xs
+extreme_unbeaten o item m rest xs h g = none_beats o xs m (best_unbeaten o xs xs m (chosen o item m rest xs h g))
+
+-- there is one
+pub extreme_one : (o : CmpOp) → (o ≡ op.Lt) ⊎ (o ≡ op.Gt) → (item : Atom) (rest answer : List Atom) → extreme_of o (item ∷ rest) ≡ Ok answer
+    → (m : Atom) × (answer ≡ m ∷ [])
+extreme_one o h item rest answer g = by (best_of o item rest) (sym (extreme_best o h item rest) ∙ g)
+  where
+    by : (r : Result Atom Code) → (r >>= (λ b. Ok (b ∷ []))) ≡ Ok answer → (m : Atom) × (answer ≡ m ∷ [])
+    by (Ok m) f = (m, cc)
+    by (Err e) f = absurd (cc)

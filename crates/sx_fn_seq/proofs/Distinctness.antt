@@ -1,7 +1,11 @@
 -- Which items are kept, and that it is enough to look at those that are.
-use Rattle.std.proofs.Common.{◌≡◌, ℕ, suc, ◌+◌, ◌<◌, length, get_or, drop, drop-cons, add-one, Bool, true, false, cond, ◌||◌, List, [], ◌∷◌, ◌++◌, refl, ap, sym, ◌∙◌, append-nil, append_assoc}
-use Rattle.std.specs.List.{list_any}
-use Rattle.std.proofs.lemmas.List.Folds.{list_any-append}
+use Rattle.std.proofs.Common.{◌≡◌, ℕ, suc, ◌+◌, ◌<◌, length, get_or, drop, drop-cons, add-one, Bool, true, false, cond, ◌||◌, List, [], ◌∷◌, ◌++◌, refl, ap, sym, ◌∙◌, subst, arith, length-append, append-nil, append_assoc}
+use Rattle.std.specs.List.{list_any, All, AllPairs}
+use Rattle.std.proofs.Math.Seq.{get_or-append_seam}
+use Rattle.std.proofs.lemmas.List.{get_or_append_left}
+use Rattle.std.proofs.lemmas.List.Elements.{All-nil, All-cons}
+use Rattle.std.proofs.lemmas.List.Folds.{list_any-append, list_any_none}
+use Rattle.std.proofs.lemmas.List.Quantifiers.{all_pairs_push}
 use Rattle.sx_atoms.specs.declared.atoms.Atom.{Atom}
 use Rattle.sx_fn_seq.specs.Distinct.{are_equal, new_behind, distinct_of}
 use Rattle.sx_fn_seq.proofs.Orders.{equal_along}
@@ -79,3 +83,44 @@ pub one_more : (kept next items : List Atom) (i : ℕ) (a : Atom) → i < length
 one_more kept next items i a h e f =
     let g : drop i items ≡ a ∷ drop (i + 1) items = rw (add-one) (drop-cons items i a h ∙ ap (λ (x : Atom). x ∷ drop (suc i) items) (sym e)) in
     ap (λ (k : List Atom). kept_from k (drop (i + 1) items)) f ∙ ap (kept_from kept) (sym g)
+
+-- no two of some atoms are equal
+abbrev pub AreApart : List Atom → Type 0
+AreApart xs = AllPairs (λ x y. are_equal x y ≡ false) xs
+
+none_among : (xs : List Atom) (a : Atom) → is_among xs a ≡ false → All (λ x. are_equal x a ≡ false) xs
+none_among [] a h = All-nil (λ x. are_equal x a ≡ false)
+none_among (x ∷ xs) a h = by (are_equal x a) refl h (λ g. none_among xs a g)
+  where
+    by : (t : Bool) → are_equal x a ≡ t → (t || is_among xs a) ≡ false → (is_among xs a ≡ false → All (λ y. are_equal y a ≡ false) xs)
+        → All (λ y. are_equal y a ≡ false) (x ∷ xs)
+    by true f g k = absurd (cc)
+    by false f g k = All-cons (λ y. are_equal y a ≡ false) x xs f (k g)
+
+kept_apart : (kept rest : List Atom) → AreApart kept → AreApart (kept_from kept rest)
+kept_apart kept [] h = h
+kept_apart kept (a ∷ rest) h = by (is_among kept a) refl (λ k g. kept_apart k rest g)
+  where
+    by : (t : Bool) → is_among kept a ≡ t → ((k : List Atom) → AreApart k → AreApart (kept_from k rest)) → AreApart (kept_from (cond t kept (kept ++ a ∷ [])) rest)
+    by true f step = step kept h
+    by false f step = step (kept ++ a ∷ []) (all_pairs_push (λ x y. are_equal x y ≡ false) kept a h (none_among kept a f))
+
+pub distinct_apart : (xs : List Atom) → AreApart (distinct_of xs)
+distinct_apart xs = subst AreApart (searched xs) (kept_apart [] xs (λ i j d h g. absurd (omega arith)))
+
+-- of atoms that are apart all are kept
+kept_all : (kept rest : List Atom) → AreApart (kept ++ rest) → kept_from kept rest ≡ kept ++ rest
+kept_all kept [] h = sym (append-nil kept)
+kept_all kept (a ∷ rest) h =
+    let none : All (λ x. are_equal x a ≡ false) kept = λ k d l.
+    let e : get_or (kept ++ a ∷ rest) k d ≡ get_or kept k d = get_or_append_left kept (a ∷ rest) d k l in
+    let f : get_or (kept ++ a ∷ rest) (length kept) d ≡ a = get_or-append_seam kept a rest d in
+    let m : length kept < length (kept ++ a ∷ rest) = rw length-append (omega arith) in
+    ap (λ (x : Atom). are_equal x a) (sym e) ∙ ap (are_equal (get_or (kept ++ a ∷ rest) k d)) (sym f) ∙ h k (length kept) d l m in
+    let e : is_among kept a ≡ false = list_any_none (λ x. are_equal x a) kept none in
+    ap (λ (t : Bool). kept_from (cond t kept (kept ++ a ∷ [])) rest) e
+    ∙ kept_all (kept ++ a ∷ []) rest (subst AreApart (sym (append_assoc kept (a ∷ []) rest)) h)
+    ∙ append_assoc kept (a ∷ []) rest
+
+pub distinct_settled : (xs : List Atom) → distinct_of (distinct_of xs) ≡ distinct_of xs
+distinct_settled xs = sym (searched (distinct_of xs)) ∙ kept_all [] (distinct_of xs) (distinct_apart xs)

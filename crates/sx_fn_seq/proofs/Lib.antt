@@ -2,3 +2,4 @@ mod Bests
 mod Distinctness
 mod Orders
 mod Places
+mod Totals

@@ -22,6 +22,12 @@ sum_from sum (item ∷ rest) = do
   next ← with_item sum item
   sum_from next rest
 
+-- the same, begun with a sum that may have failed (14.4.5)
+abbrev pub sum_after : Result Atom Code → List Atom → Result Atom Code
+sum_after sum items = do
+  start ← sum
+  sum_from start items
+
 -- the sum: that of nothing is the integer 0 (14.4.5)
 abbrev pub total_of : List Atom → Result Atom Code
 total_of items = sum_from (atom.Int (pos 0)) items

@@ -5,6 +5,7 @@ mod answers;
 mod calls;
 mod distinct;
 mod extremes;
+pub mod laws;
 mod order;
 mod parts;
 mod rounding;
