@@ -14,7 +14,8 @@ use Rattle.sx_atoms.specs.declared.comparison.CmpOp.{CmpOp}
 use Rattle.sx_atoms.specs.declared.comparison.CmpOp.TheVariants as op
 use Rattle.sx_atoms.specs.declared.error_codes.Code.{Code}
 use Rattle.sx_atoms.specs.declared.error_codes.Code.TheVariants as code
-use Rattle.sx_fn_seq.specs.Extremes.{is_text, compared_among, all_compared, first_unbeaten, better_of, best_from, best_of, extreme_of}
+use Rattle.sx_fn_seq.specs.Best.{better_of, best_from, best_of}
+use Rattle.sx_fn_seq.specs.Extremes.{is_text, compared_among, all_compared, first_unbeaten, extreme_of}
 use Rattle.sx_fn_seq.specs.Order.{stands}
 use Rattle.sx_fn_seq.proofs.Orders.{IsOf, IsStrictAmong, less_among, greater_among}
 

@@ -1,18 +1,14 @@
 -- Which items are kept, and that it is enough to look at those that are.
 use Rattle.std.proofs.Common.{◌≡◌, ℕ, suc, ◌+◌, ◌<◌, length, get_or, drop, drop-cons, add-one, Bool, true, false, cond, ◌||◌, List, [], ◌∷◌, ◌++◌, refl, ap, sym, ◌∙◌, subst, arith, length-append, append-nil, append_assoc}
-use Rattle.std.specs.List.{list_any, All, AllPairs}
+use Rattle.std.specs.List.{All, AllPairs}
 use Rattle.std.proofs.Math.Seq.{get_or-append_seam}
 use Rattle.std.proofs.lemmas.List.{get_or_append_left}
 use Rattle.std.proofs.lemmas.List.Elements.{All-nil, All-cons}
 use Rattle.std.proofs.lemmas.List.Folds.{list_any-append, list_any_none}
 use Rattle.std.proofs.lemmas.List.Quantifiers.{all_pairs_push}
 use Rattle.sx_atoms.specs.declared.atoms.Atom.{Atom}
-use Rattle.sx_fn_seq.specs.Distinct.{are_equal, new_behind, distinct_of}
+use Rattle.sx_fn_seq.specs.Distinct.{are_equal, is_among, new_behind, distinct_of}
 use Rattle.sx_fn_seq.proofs.Orders.{equal_along}
-
--- whether an atom equals one of some
-abbrev pub is_among : List Atom → Atom → Bool
-is_among xs a = list_any (λ x. are_equal x a) xs
 
 -- what is kept, and one item more where it equals none of it
 abbrev pub with_new : List Atom → Atom → List Atom

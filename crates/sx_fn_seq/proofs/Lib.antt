@@ -1,3 +1,4 @@
+mod Additions
 mod Bests
 mod Distinctness
 mod Orders

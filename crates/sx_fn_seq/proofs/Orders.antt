@@ -22,7 +22,7 @@ use Rattle.sx_fn_seq.specs.Order.{stands}
 abbrev pub of_values : CmpOp → Value → Value → Bool
 of_values operator x y = result_unwrap_or (order_of x y >>= (λ o. Ok (holds operator o))) false
 
-is_equal : (o : Ordering) → is_eq o ≡ true → o ≡ Equal
+pub is_equal : (o : Ordering) → is_eq o ≡ true → o ≡ Equal
 is_equal Less h = cc
 is_equal Equal h = refl
 is_equal Greater h = cc
@@ -31,7 +31,7 @@ is_equal Greater h = cc
 along : {K : Type 0} {R : K → K → Ordering} → IsTotalOrder R → (x y z : K) → is_eq (R x y) ≡ true → is_eq (R y z) ≡ true → is_eq (R x z) ≡ true
 along {K} {R} total x y z h g = ap is_eq (total.congr x y z (is_equal (R x y) h)) ∙ g
 
-values_along : (x y z : Value) → of_values op.Eq x y ≡ true → of_values op.Eq y z ≡ true → of_values op.Eq x z ≡ true
+pub values_along : (x y z : Value) → of_values op.Eq x y ≡ true → of_values op.Eq y z ≡ true → of_values op.Eq x z ≡ true
 values_along (values.quantity x) (values.quantity y) (values.quantity z) h g = along int_cmp_total x y z h g
 values_along (values.quantity x) (values.quantity y) (values.text z) h g = absurd (cc)
 values_along (values.quantity x) (values.quantity y) (values.truth z) h g = absurd (cc)

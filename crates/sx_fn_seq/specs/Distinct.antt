@@ -9,11 +9,15 @@ use Rattle.sx_fn_seq.specs.Order.{stands}
 abbrev pub are_equal : Atom → Atom → Bool
 are_equal a b = stands op.Eq a b
 
+-- whether an atom equals one of some
+abbrev pub is_among : List Atom → Atom → Bool
+is_among atoms a = list_any (λ x. are_equal x a) atoms
+
 -- those items that none before them equals, behind items that stand before them all (14.2.1)
 abbrev pub new_behind : List Atom → List Atom → List Atom
 new_behind before [] = []
 new_behind before (item ∷ rest) =
-    if list_any (λ x. are_equal x item) before then new_behind (before ++ item ∷ []) rest
+    if is_among before item then new_behind (before ++ item ∷ []) rest
     else item ∷ new_behind (before ++ item ∷ []) rest
 
 -- the items that none before them equals (14.2.1)

@@ -1,9 +1,11 @@
+pub mod Best
 pub mod Calls
 pub mod Distinct
 pub mod Extremes
 pub mod Order
 pub mod Parts
 pub mod Rounding
+pub mod Seeing
 pub mod Signatures
 pub mod Sums
 pub mod Truths

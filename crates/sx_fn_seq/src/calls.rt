@@ -80,6 +80,7 @@ fn of_one(alloc: Global, f: SeqFn, x: &[Atom]) -> Result<Result<Atoms, Code>, Al
         SeqFn::ToDecimal => cast_one(alloc, AtomType::Decimal, x),
         SeqFn::ToStr => cast_one(alloc, AtomType::Str, x),
         SeqFn::ToBoolean => cast_one(alloc, AtomType::Boolean, x),
+        // The others take another number of arguments, or need more than arguments.
         _ => Ok(Ok(Items::new(alloc))),
     }
 }

@@ -1,37 +1,39 @@
 // Values that differ.
 ghost use Rattle.std.specs.Prelude.{◌≡◌, [], ◌∷◌, ◌++◌, if◌then◌else◌, IfOk, OnOk};
-ghost use Rattle.std.specs.List.{list_any};
-ghost use Rattle.sx_fn_seq.specs.Distinct.{are_equal, distinct_of};
+ghost use Rattle.sx_fn_seq.specs.Distinct.{is_among, distinct_of};
+ghost use Rattle.sx_fn_seq.specs.Seeing.{Shows, has_value};
 
-use crate::order::stands;
+use crate::seen::Seen;
 use sqlite_items::Items;
 use std::alloc::{AllocError, Global};
-use sx_atoms::{Atom, Atoms, CmpOp};
+use sx_atoms::{Atom, Atoms};
 
-// Whether an atom equals one of some.
-fn is_among(atoms: &[Atom], atom: &Atom) -> bool
-    ensures { result ≡ list_any (λ x. are_equal x atom.now) atoms.now }
+// Keeps a copy of an item, if its value was not seen.
+fn keep<'a>(
+    alloc: Global,
+    seen: &mut Seen<'a>,
+    kept: &mut Atoms,
+    item: &'a Atom,
+) -> Result<(), AllocError>
+    requires { Shows seen.old (has_value kept.old) }
+    ensures kept { OnOk result (kept.new ≡ (if is_among kept.old item.now then kept.old else kept.old ++ item.now ∷ [])) }
+    ensures seen { OnOk result (Shows seen.new (has_value kept.new)) }
 {
-    atoms.iter().any(|x| stands(CmpOp::Eq, x, atom))
-}
-
-// Keeps a copy of an item, if it equals none that is kept.
-fn keep(alloc: Global, kept: &mut Atoms, item: &Atom) -> Result<(), AllocError>
-    ensures { OnOk result (kept.new ≡ (if list_any (λ x. are_equal x item.now) kept.old then kept.old else kept.old ++ item.now ∷ [])) }
-{
-    if is_among(kept.as_slice(), item) {
+    if seen.insert(item)? {
+        kept.push(Atom::copy(alloc, item)?)?;
         return Ok(());
     }
-    kept.push(Atom::copy(alloc, item)?)
+    Ok(())
 }
 
-// The items that none before them equals.
+// The items that none before them equals. It takes a time that grows as the number of items times its logarithm.
 pub fn distinct(alloc: Global, items: &[Atom]) -> Result<Atoms, AllocError>
     ensures { IfOk result (λ kept. kept ≡ distinct_of items.now) }
 {
+    let mut seen = Seen::new(alloc);
     let mut kept = Items::new(alloc);
     for item in items {
-        keep(alloc, &mut kept, item)?;
+        keep(alloc, &mut seen, &mut kept, item)?;
     }
     Ok(kept)
 }

@@ -1,13 +1,22 @@
 // The least and the greatest of numbers and of texts.
 ghost use Rattle.std.specs.Prelude.{◌≡◌, ◌⊎◌, false, IfOk};
+ghost use Rattle.sx_fn_seq.specs.Best as steps;
+ghost use Rattle.sx_fn_seq.specs.Best.{better_of};
 ghost use Rattle.sx_fn_seq.specs.Extremes as spec;
-ghost use Rattle.sx_fn_seq.specs.Extremes.{compared_among, better_of, extreme_of};
+ghost use Rattle.sx_fn_seq.specs.Extremes.{compared_among, extreme_of};
+ghost use Rattle.sx_fn_seq.specs.Order as order;
 
 use crate::answers::one;
-use crate::order::stands;
 use sqlite_items::Items;
 use std::alloc::{AllocError, Global};
-use sx_atoms::{Atom, AtomType, Atoms, CmpOp, Code, cast};
+use sx_atoms::{Atom, AtomType, Atoms, CmpOp, Code, cast, compare};
+
+// Whether an operator holds of two values. It does not where they have no order.
+fn stands(operator: CmpOp, a: &Atom, b: &Atom) -> bool
+    ensures { result ≡ order.stands operator a.now b.now }
+{
+    compare(operator, false, a, b).unwrap_or(false)
+}
 
 // Whether an atom is a string.
 fn is_text(atom: &Atom) -> bool
@@ -77,7 +86,7 @@ fn best_with(
     best: Atom,
     item: &Atom,
 ) -> Result<Result<Atom, Code>, AllocError>
-    ensures { IfOk result (λ answer. answer ≡ spec.best_with operator texts best item.now) }
+    ensures { IfOk result (λ answer. answer ≡ steps.best_with operator texts best item.now) }
 {
     if is_text(item) {
         return if texts {
@@ -100,7 +109,7 @@ fn best_from(
     first: Atom,
     items: &[Atom],
 ) -> Result<Result<Atom, Code>, AllocError>
-    ensures { IfOk result (λ answer. answer ≡ spec.best_from operator texts first items.now) }
+    ensures { IfOk result (λ answer. answer ≡ steps.best_from operator texts first items.now) }
 {
     let mut best = first;
     for item in items {
@@ -119,7 +128,7 @@ fn best_of(
     item: &Atom,
     rest: &[Atom],
 ) -> Result<Result<Atom, Code>, AllocError>
-    ensures { IfOk result (λ answer. answer ≡ spec.best_of operator item.now rest.now) }
+    ensures { IfOk result (λ answer. answer ≡ steps.best_of operator item.now rest.now) }
 {
     let texts = is_text(item);
     match first_of(alloc, texts, item)? {

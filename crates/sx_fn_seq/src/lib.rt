@@ -6,9 +6,9 @@ mod calls;
 mod distinct;
 mod extremes;
 pub mod laws;
-mod order;
 mod parts;
 mod rounding;
+mod seen;
 mod signatures;
 mod sums;
 #[cfg(test)]

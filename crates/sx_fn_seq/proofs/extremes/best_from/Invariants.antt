@@ -1,5 +1,5 @@
 use Rattle.std.proofs.Common.{◌≡◌, drop}
-use Rattle.sx_fn_seq.specs.Extremes.{best_from}
+use Rattle.sx_fn_seq.specs.Best.{best_from}
 use Rattle.sx_fn_seq.proofs.extremes.best_from.Given as goal
 
 abbrev pub invariant-loop-item : goal.invariant-loop-item
