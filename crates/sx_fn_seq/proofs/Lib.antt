@@ -2,5 +2,4 @@ mod Additions
 mod Bests
 mod Distinctness
 mod Orders
-mod Places
 mod Totals
