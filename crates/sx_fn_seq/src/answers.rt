@@ -6,7 +6,7 @@ use sqlite_items::Items;
 use std::alloc::{AllocError, Global};
 use sx_atoms::{Atom, Atoms, Code};
 
-// One atom.
+/// One atom.
 pub fn one(alloc: Global, atom: Atom) -> Result<Atoms, AllocError>
     ensures { IfOk result (λ atoms. atoms ≡ atom ∷ []) }
 {
@@ -15,7 +15,7 @@ pub fn one(alloc: Global, atom: Atom) -> Result<Atoms, AllocError>
     Ok(atoms)
 }
 
-// An answer of one atom.
+/// An answer of one atom.
 pub fn answered(
     alloc: Global,
     answer: Result<Atom, Code>,
@@ -28,7 +28,7 @@ pub fn answered(
     }
 }
 
-// Copies of atoms.
+/// Copies of atoms.
 pub fn copies(alloc: Global, atoms: &[Atom]) -> Result<Atoms, AllocError>
     ensures { IfOk result (λ copy. copy ≡ atoms.now) }
 {

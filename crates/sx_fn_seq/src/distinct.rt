@@ -26,7 +26,7 @@ fn keep<'a>(
     Ok(())
 }
 
-// The items that none before them equals. It takes a time that grows as the number of items times its logarithm.
+/// The items that none before them equals. It takes a time that grows as the number of items times its logarithm.
 pub fn distinct(alloc: Global, items: &[Atom]) -> Result<Atoms, AllocError>
     ensures { IfOk result (λ kept. kept ≡ distinct_of items.now) }
 {

@@ -137,8 +137,8 @@ fn best_of(
     }
 }
 
-// The least item by `Lt` and the greatest by `Gt`, where there is an item, or the code of the first item that is none of the
-// kind.
+/// The least item by `Lt` and the greatest by `Gt`, where there is an item, or the code of the first item that is none of the
+/// kind.
 pub fn extreme(
     alloc: Global,
     operator: CmpOp,

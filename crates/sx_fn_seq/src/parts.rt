@@ -10,7 +10,7 @@ use std::alloc::{AllocError, Global};
 use sx_arguments::positions;
 use sx_atoms::{Atom, AtomType, Atoms, Code, cast};
 
-// The first item, where there is one.
+/// The first item, where there is one.
 pub fn head(alloc: Global, items: &[Atom]) -> Result<Atoms, AllocError>
     ensures { IfOk result (λ atoms. atoms ≡ spec.head_of items.now) }
 {
@@ -20,7 +20,7 @@ pub fn head(alloc: Global, items: &[Atom]) -> Result<Atoms, AllocError>
     }
 }
 
-// The items behind the first one.
+/// The items behind the first one.
 pub fn tail(alloc: Global, items: &[Atom]) -> Result<Atoms, AllocError>
     ensures { IfOk result (λ atoms. atoms ≡ spec.tail_of items.now) }
 {
@@ -30,7 +30,7 @@ pub fn tail(alloc: Global, items: &[Atom]) -> Result<Atoms, AllocError>
     }
 }
 
-// The items from the last one to the first.
+/// The items from the last one to the first.
 pub fn reversed(alloc: Global, items: &[Atom]) -> Result<Atoms, AllocError>
     ensures { IfOk result (λ atoms. atoms ≡ reverse items.now) }
 {
@@ -41,7 +41,7 @@ pub fn reversed(alloc: Global, items: &[Atom]) -> Result<Atoms, AllocError>
     Ok(atoms)
 }
 
-// The items at the positions that numbers select, or the code of the first argument that is no number.
+/// The items at the positions that numbers select, or the code of the first argument that is no number.
 pub fn subsequence(
     alloc: Global,
     items: &[Atom],
@@ -59,7 +59,7 @@ pub fn subsequence(
     }
 }
 
-// Items where there are as many as is allowed, and else a code.
+/// Items where there are as many as is allowed, and else a code.
 pub fn allowed(
     alloc: Global,
     holds: bool,
@@ -75,7 +75,7 @@ pub fn allowed(
     }
 }
 
-// A cast of the one atom, where there is one. XPTY0004 where there are more.
+/// A cast of the one atom, where there is one. XPTY0004 where there are more.
 pub fn cast_one(
     alloc: Global,
     to: AtomType,

@@ -12,7 +12,7 @@ use sx_atoms::{Atom, Atoms, Code, Dec};
 // How many units of a decimal make one.
 const ONE: i128 = 1_000_000_000;
 
-// What is made of a number: its distance from zero, or an integer that is near.
+/// What is made of a number: its distance from zero, or an integer that is near.
 #[derive(Clone, Copy)]
 pub enum Rounding {
     Abs,
@@ -59,8 +59,8 @@ fn decimal_by(rounding: Rounding, d: Dec) -> Result<Atom, Code>
     }
 }
 
-// What is made of a number argument, where there is a number. XPTY0004 and the codes of a cast where it is none, FOAR0002
-// where the answer is too great.
+/// What is made of a number argument, where there is a number. XPTY0004 and the codes of a cast where it is none, FOAR0002
+/// where the answer is too great.
 pub fn rounded(
     alloc: Global,
     rounding: Rounding,

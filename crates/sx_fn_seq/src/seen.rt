@@ -13,8 +13,8 @@ use sx_atoms::Atom;
 // How many units of a decimal make one.
 const ONE: i128 = 1_000_000_000;
 
-// Values that were seen, each once: numbers by their units where these are in the range of a decimal, the other integers,
-// texts and truth values.
+/// Values that were seen, each once: numbers by their units where these are in the range of a decimal, the other integers,
+/// texts and truth values.
 #[derive(Drop)]
 pub struct Seen<'a> {
     decimals: BTreeSet<i128>,
@@ -31,7 +31,7 @@ fn units(n: i128) -> Option<i128>
 }
 
 impl<'a> Seen<'a> {
-    // No values.
+    /// No values.
     pub fn new(alloc: Global) -> Seen<'a>
         ensures { IsEmpty result }
     {
@@ -72,7 +72,7 @@ impl<'a> Seen<'a> {
         Ok(self.truths.insert(b)?)
     }
 
-    // Adds the value of an atom, and says whether it is new.
+    /// Adds the value of an atom, and says whether it is new.
     pub fn insert(&mut self, atom: &'a Atom) -> Result<bool, AllocError>
         ensures { IfOk result (λ added. Adds self.old self.new (value_of atom.now) added) }
     {

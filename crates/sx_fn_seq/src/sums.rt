@@ -17,7 +17,7 @@ fn with(sum: &Atom, item: &Atom) -> Result<Atom, Code>
     }
 }
 
-// The sum from left to right, or the code of the first item that fails.
+/// The sum from left to right, or the code of the first item that fails.
 pub fn total(items: &[Atom]) -> Result<Atom, Code>
     ensures { result ≡ total_of items.now }
 {
@@ -36,7 +36,7 @@ fn mean(items: &[Atom]) -> Result<Atom, Code>
     div(&sum, &Atom::Int(items.len() as i128))
 }
 
-// The average, where there is an item.
+/// The average, where there is an item.
 pub fn average(alloc: Global, items: &[Atom]) -> Result<Result<Atoms, Code>, AllocError>
     ensures { IfOk result (λ answer. answer ≡ average_of items.now) }
 {

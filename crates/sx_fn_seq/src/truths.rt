@@ -16,7 +16,7 @@ fn counts_as_true(atom: &Atom) -> bool
     }
 }
 
-// The effective boolean value, or FORG0006 where there are several atoms.
+/// The effective boolean value, or FORG0006 where there are several atoms.
 pub fn effective_truth(atoms: &[Atom]) -> Result<bool, Code>
     ensures { result ≡ spec.effective_truth atoms.now }
 {
