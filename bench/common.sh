@@ -30,7 +30,8 @@ as_xml() { # of such a document
 measure() { # name, input, command..: what it writes is left in "$work/result"
   local name=$1 input=$2 times
   shift 2
-  times=$( { /usr/bin/time -f '%e %M' "$@" >"$work/result"; } 2>&1)
+  /usr/bin/time -o "$work/times" -f '%e %M' "$@" >"$work/result" 2>"$work/messages" || true
+  times=$(tail -n 1 "$work/times")
   awk -v name="$name" -v size="$(wc -c <"$input")" -v times="$times" 'BEGIN {
     split(times, t, " ")
     printf "%-14s %8.1f MB %7.2f s %8.1f MB/s %8d kB at most\n", name, size / 1e6, t[1], size / 1e6 / (t[1] > 0 ? t[1] : 0.01), t[2]

@@ -16,7 +16,7 @@ for size in $((count / 10)) "$count"; do
   cmp "$work/expected.esis" "$work/result"
   if command -v onsgmls >/dev/null && [ -r "$declaration" ]; then
     as_xml <"$work/document.esis" >"$work/document.xml"
-    SP_CHARSET_FIXED=YES SP_ENCODING=UTF-8 measure "onsgmls" "$work/document.xml" onsgmls -wxml -wno-valid -E0 "$declaration" "$work/document.xml" 2>"$work/messages"
+    SP_CHARSET_FIXED=YES SP_ENCODING=UTF-8 measure "onsgmls" "$work/document.xml" onsgmls -wxml -wno-valid -E0 "$declaration" "$work/document.xml"
   fi
   measure "cat" "$work/document.esis" cat "$work/document.esis"
 done
