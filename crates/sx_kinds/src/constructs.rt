@@ -18,6 +18,58 @@ pub enum ConstructKind {
     Text,
     /// an `xsl:apply-templates`
     ApplyTemplates,
+    /// expressions joined by commas
+    Comma,
+    /// a `for`
+    For,
+    /// a `let`
+    Let,
+    /// a `some`
+    Some,
+    /// an `every`
+    Every,
+    /// an `if`
+    If,
+    /// an `or`
+    Or,
+    /// an `and`
+    And,
+    /// a comparison
+    Compare,
+    /// a `||`
+    Concat,
+    /// a `to`
+    Range,
+    /// an operator of arithmetic between two operands
+    Arith,
+    /// a sign
+    Unary,
+    /// a union
+    Union,
+    /// a `castable as`
+    Castable,
+    /// a `cast as`
+    Cast,
+    /// a `!`
+    Map,
+    /// a path
+    Path,
+    /// a step
+    Step,
+    /// an expression with predicates
+    Filter,
+    /// a literal
+    LiteralValue,
+    /// a variable
+    Var,
+    /// a pair of parentheses without content
+    Empty,
+    /// a `.`
+    Dot,
+    /// a `/` by itself
+    Root,
+    /// a call of a function
+    Call,
 }
 
 /// A construct: its number, counted from 1 in document order over all constructs of the stylesheet, the line on which its
@@ -32,7 +84,7 @@ pub struct Construct {
 
 /// A pattern: it matches the elements of one name, which is given by its number.
 #[derive(Clone, Copy, Debug, PartialEq, Eq)]
-pub struct Pattern {
+pub struct NamePattern {
     pub construct: Construct,
     pub name: u64,
 }

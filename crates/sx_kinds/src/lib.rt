@@ -2,9 +2,13 @@
 #![tactic(auto)]
 
 mod constructs;
+mod expressions;
 mod sheets;
 #[cfg(test)]
 mod tests;
+mod types;
 
-pub use constructs::{Body, Construct, ConstructKind, Instr, InstrForm, Pattern, copy_body};
+pub use constructs::{Body, Construct, ConstructKind, Instr, InstrForm, NamePattern, copy_body};
+pub use expressions::{ArithOp, AvtPart, AvtParts, Deep, Expr, ExprForm, Exprs, Function, Pattern};
 pub use sheets::{Mode, Modes, OnNoMatch, Sheet, Template, Templates};
+pub use types::{Origin, Ty, TyKind};

@@ -1,7 +1,7 @@
 // Stylesheets, their modes and their templates.
 ghost use Rattle.std.specs.Prelude.{◌≡◌, IfOk};
 
-use crate::constructs::{Body, Construct, Pattern, copy_body};
+use crate::constructs::{Body, Construct, NamePattern, copy_body};
 use sqlite_items::Items;
 use std::alloc::{AllocError, Global};
 use sx_tree::Label;
@@ -10,7 +10,7 @@ use sx_tree::Label;
 #[derive(Drop)]
 pub struct Template {
     pub construct: Construct,
-    pub pattern: Option<Pattern>,
+    pub pattern: Option<NamePattern>,
     pub body: Body,
 }
 

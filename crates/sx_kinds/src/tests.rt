@@ -1,6 +1,6 @@
 // Copies of a stylesheet.
 use crate::{
-    Construct, ConstructKind, Instr, InstrForm, Mode, OnNoMatch, Pattern, Sheet, Template,
+    Construct, ConstructKind, Instr, InstrForm, Mode, NamePattern, OnNoMatch, Sheet, Template,
 };
 use sqlite_items::Items;
 use std::alloc::{AllocError, Global};
@@ -31,7 +31,7 @@ fn sheet(alloc: Global) -> Result<Sheet, AllocError> {
     let mut templates = Items::new(alloc);
     templates.push(Template {
         construct: construct(1, 9, ConstructKind::Template),
-        pattern: Some(Pattern {
+        pattern: Some(NamePattern {
             construct: construct(2, 9, ConstructKind::Pattern),
             name: 0,
         }),

@@ -3,7 +3,7 @@ use Rattle.std.proofs.Common.{◌≡◌, ◌⊎◌, inl, inr, ℕ, ◌<◌, ◌�
 use Rattle.std.proofs.lemmas.Bool.{cases_lt, ne_eqb}
 use Rattle.std.proofs.lemmas.List.{get_or_past, take_more}
 use Rattle.std.proofs.lemmas.Option.{slice_get-get_or}
-use Rattle.sx_kinds.specs.declared.constructs.Pattern.{Pattern}
+use Rattle.sx_kinds.specs.declared.constructs.NamePattern.{NamePattern}
 use Rattle.sx_kinds.specs.declared.sheets.Template.{Template}
 use Rattle.sx_machine.specs.declared.plans.Rule.{Rule}
 use Rattle.sx_machine.specs.declared.rule_table.RuleTable.{RuleTable}
@@ -48,7 +48,7 @@ place_more rules i n r old new h read e put =
 
 -- ---- numbers that the stylesheet doesn't know
 
-not_this : (count number : ℕ) (p : Option Pattern) → IsKnownPattern count p → count ≤ number → is_number number (pattern_name p) ≡ false
+not_this : (count number : ℕ) (p : Option NamePattern) → IsKnownPattern count p → count ≤ number → is_number number (pattern_name p) ≡ false
 not_this count number None k h = refl
 not_this count number (Some p) k h = ne_eqb p.name number (omega arith)
 

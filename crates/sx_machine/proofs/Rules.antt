@@ -9,7 +9,7 @@ use Rattle.std.proofs.lemmas.Option.{slice_get-get_or}
 use Rattle.sx_names.specs.Numbering.{IsDistinct, KeepsPlaces, uri_at, local_at}
 use Rattle.sx_tree.specs.declared.events.Label.{Label}
 use Rattle.sx_tree.specs.Named.{Name, name_at}
-use Rattle.sx_kinds.specs.declared.constructs.Pattern.{Pattern}
+use Rattle.sx_kinds.specs.declared.constructs.NamePattern.{NamePattern}
 use Rattle.sx_kinds.specs.declared.constructs.Instr.{Instr}
 use Rattle.sx_kinds.specs.declared.constructs.Instr.TheViews.{out-Instr}
 use Rattle.sx_kinds.specs.declared.constructs.Instr.TheFolds.{fold_out-Instr}
@@ -159,7 +159,7 @@ module _ (known names : List (List ℕ × List ℕ)) (keeps : KeepsPlaces known 
         (λ e. sym (keeps n h) ∙ ap (slice_get names) e ∙ texts)
         (name_decides (name_at names label) (slice_get known n))))
 
-    pattern_same : (p : Option Pattern) → IsKnownPattern (length known) p
+    pattern_same : (p : Option NamePattern) → IsKnownPattern (length known) p
         → pattern_passes (λ (n : ℕ). is_name (name_at names label) (slice_get known n)) p ≡ is_number label.number (pattern_name p)
     pattern_same None h = refl
     pattern_same (Some p) h = one_same p.name h

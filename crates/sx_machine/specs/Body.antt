@@ -7,7 +7,7 @@ use Rattle.sx_kinds.specs.declared.constructs.InstrForm.TheVariants as form
 use Rattle.sx_kinds.specs.declared.constructs.Instr.{Instr}
 use Rattle.sx_kinds.specs.declared.constructs.Instr.TheOpen.{Instr-F}
 use Rattle.sx_kinds.specs.declared.constructs.Instr.TheFolds.{fold-Instr}
-use Rattle.sx_kinds.specs.declared.constructs.Pattern.{Pattern}
+use Rattle.sx_kinds.specs.declared.constructs.NamePattern.{NamePattern}
 use Rattle.sx_kinds.specs.declared.sheets.Template.{Template}
 
 -- Instructions one behind another, where N is how names are given: a literal result element with the line on which it
@@ -106,7 +106,7 @@ IsKnownBody count (words s rest) = IsKnownBody count rest
 IsKnownBody count (apply rest) = IsKnownBody count rest
 
 -- the name of a pattern has a number
-abbrev pub IsKnownPattern : ℕ → Option Pattern → Type 0
+abbrev pub IsKnownPattern : ℕ → Option NamePattern → Type 0
 IsKnownPattern count None = Unit {0}
 IsKnownPattern count (Some p) = p.name < count
 

@@ -1,7 +1,7 @@
 -- Which template is chosen for an element, or else what the built-in one does (XSLT 3.0, 6.4, 6.5 and 6.7).
 use Rattle.std.specs.Prelude.{ℕ, Bool, true, false, ◌&&◌, bytes_eq, List, [], ◌∷◌, Option, Some, None, slice_get, if◌then◌else◌}
 use Rattle.sx_tree.specs.Named.{Name, Begun}
-use Rattle.sx_kinds.specs.declared.constructs.Pattern.{Pattern}
+use Rattle.sx_kinds.specs.declared.constructs.NamePattern.{NamePattern}
 use Rattle.sx_kinds.specs.declared.sheets.Template.{Template}
 use Rattle.sx_machine.specs.Body.{Body, nil, literal, copies, apply, body_of, written_out}
 
@@ -22,7 +22,7 @@ is_name name None = false
 is_name name (Some entry) = bytes_eq entry.0 name.uri && bytes_eq entry.1 name.local
 
 -- the name of a pattern passes a test; no pattern matches nothing
-abbrev pub pattern_passes : (ℕ → Bool) → Option Pattern → Bool
+abbrev pub pattern_passes : (ℕ → Bool) → Option NamePattern → Bool
 pattern_passes test None = false
 pattern_passes test (Some p) = test p.name
 

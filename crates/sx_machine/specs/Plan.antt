@@ -6,7 +6,7 @@ use Rattle.sx_tree.specs.Tree.{Happening, starts, ends, says, instructs, closes,
 use Rattle.sx_build.specs.Asked as ask
 use Rattle.sx_build.specs.Asked.{all_asked_at}
 use Rattle.sx_build.specs.declared.raw.Raw.{Raw}
-use Rattle.sx_kinds.specs.declared.constructs.Pattern.{Pattern}
+use Rattle.sx_kinds.specs.declared.constructs.NamePattern.{NamePattern}
 use Rattle.sx_kinds.specs.declared.sheets.Template.{Template}
 use Rattle.sx_machine.specs.declared.plans.Plan.{Plan as KeptPlan}
 use Rattle.sx_machine.specs.declared.plans.Rule.{Rule}
@@ -57,7 +57,7 @@ abbrev pub read_plan : List (List ℕ × List ℕ) → KeptPlan → Plan
 read_plan names p = read_parts names p.before p.behind
 
 -- the number of the name that a pattern has
-abbrev pub pattern_name : Option Pattern → Option ℕ
+abbrev pub pattern_name : Option NamePattern → Option ℕ
 pattern_name None = None
 pattern_name (Some p) = Some p.name
 

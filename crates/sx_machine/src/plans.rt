@@ -9,7 +9,7 @@ ghost use Rattle.sx_tree.specs.declared.events.Label.{Label as NameLabel};
 use sqlite_items::Items;
 use std::alloc::{AllocError, Global};
 use sx_build::{Raw, Raws};
-use sx_kinds::{Instr, InstrForm, Pattern, Template};
+use sx_kinds::{Instr, InstrForm, NamePattern, Template};
 use sx_tree::{Chars, Label};
 
 /// How a body is run while the children come: what it gives before them, and, where it asks for them, what it gives behind.
@@ -90,7 +90,7 @@ fn plan_instr(alloc: Global, instr: &Instr, plan: &mut Plan) -> Result<(), Alloc
 }
 
 // The number of the name that a pattern has.
-fn name_of(pattern: &Option<Pattern>) -> Option<u64>
+fn name_of(pattern: &Option<NamePattern>) -> Option<u64>
     ensures { result ≡ pattern_name pattern.now }
 {
     match pattern {

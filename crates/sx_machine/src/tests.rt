@@ -4,7 +4,7 @@ use sqlite_items::Items;
 use std::alloc::{AllocError, Global};
 use sx_atoms::Code;
 use sx_kinds::{
-    Body, Construct, ConstructKind, Instr, InstrForm, Mode, OnNoMatch, Pattern, Sheet, Template,
+    Body, Construct, ConstructKind, Instr, InstrForm, Mode, NamePattern, OnNoMatch, Sheet, Template,
 };
 use sx_lines::append;
 use sx_names::Names;
@@ -69,7 +69,7 @@ fn literal(
 fn template(names: &mut Names, name: &str, body: Body) -> Result<Template, AllocError> {
     Ok(Template {
         construct: construct(ConstructKind::Template),
-        pattern: Some(Pattern {
+        pattern: Some(NamePattern {
             construct: construct(ConstructKind::Pattern),
             name: names.intern("", name)?,
         }),

@@ -3,7 +3,7 @@ use Rattle.std.proofs.Common.{◌≡◌, ◌<◌, ◌⊎◌, inl, inr, ℕ, Bool
 use Rattle.std.proofs.lemmas.Option.{slice_get_within}
 use Rattle.sx_kinds.specs.declared.constructs.Construct.{Construct}
 use Rattle.sx_kinds.specs.declared.constructs.Instr.{Instr}
-use Rattle.sx_kinds.specs.declared.constructs.Pattern.{Pattern}
+use Rattle.sx_kinds.specs.declared.constructs.NamePattern.{NamePattern}
 use Rattle.sx_kinds.specs.declared.sheets.OnNoMatch.{OnNoMatch}
 use Rattle.sx_kinds.specs.declared.sheets.OnNoMatch.TheVariants.{TextOnlyCopy, ShallowCopy}
 use Rattle.sx_kinds.specs.declared.sheets.Sheet.{Sheet}
@@ -57,7 +57,7 @@ pub record AreBuilt (count : ℕ) (P : List Instr → Type 0) (Q : List Template
   pub texts : (c : Construct) (s : List ℕ) (rest : List Instr) → P rest → P (text_with c s ∷ rest)
   pub applies : (c : Construct) (rest : List Instr) → P rest → P (apply_with c ∷ rest)
   pub none : Q []
-  pub templates : (c : Construct) (p : Pattern) (b : List Instr) (rest : List Template) → p.name < count → P b → Q rest → Q (template_with c p b ∷ rest)
+  pub templates : (c : Construct) (p : NamePattern) (b : List Instr) (rest : List Template) → p.name < count → P b → Q rest → Q (template_with c p b ∷ rest)
 
 module _ (lines : List ℕ) (number : Name → ℕ) (count : ℕ) (P : List Instr → Type 0) (Q : List Template → Type 0) (built : AreBuilt count P Q) where
   instrs_hold : (b : Body) (p : Place) → AllBody (λ name. number name < count) b → P (instrs_of lines number p b)

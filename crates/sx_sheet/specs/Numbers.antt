@@ -5,7 +5,7 @@ use Rattle.sx_tree.specs.Named.{Name}
 use Rattle.sx_kinds.specs.declared.constructs.Construct.{Construct}
 use Rattle.sx_kinds.specs.declared.constructs.ConstructKind.{ConstructKind}
 use Rattle.sx_kinds.specs.declared.constructs.ConstructKind.TheVariants as kind
-use Rattle.sx_kinds.specs.declared.constructs.Pattern.{Pattern}
+use Rattle.sx_kinds.specs.declared.constructs.NamePattern.{NamePattern}
 use Rattle.sx_kinds.specs.declared.constructs.InstrForm.TheVariants as form
 use Rattle.sx_kinds.specs.declared.constructs.Instr.{Instr}
 use Rattle.sx_kinds.specs.declared.constructs.Instr.TheViews.{roll-Instr}
@@ -71,7 +71,7 @@ abbrev pub construct_on : ℕ → ℕ → ConstructKind → Construct
 construct_on line count k = record { number = count + 1; line = line; kind = k }
 
 -- the pattern of the template that starts on this line behind so many constructs
-abbrev pub pattern_on : ℕ → ℕ → ℕ → Pattern
+abbrev pub pattern_on : ℕ → ℕ → ℕ → NamePattern
 pattern_on line count n = record { construct = record { number = count + 2; line = line; kind = kind.Pattern }; name = n }
 
 -- the name with this number, without a prefix
@@ -91,7 +91,7 @@ abbrev pub apply_with : Construct → Instr
 apply_with c = roll-Instr (record { construct = c; form = form.ApplyTemplates; body = [] })
 
 -- a template that is this construct, with this pattern and this body
-abbrev pub template_with : Construct → Pattern → List Instr → Template
+abbrev pub template_with : Construct → NamePattern → List Instr → Template
 template_with c p b = record { construct = c; pattern = Some p; body = b }
 
 -- a name in no namespace, without a prefix

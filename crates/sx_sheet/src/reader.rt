@@ -13,7 +13,7 @@ use crate::tokens::Token;
 use sqlite_items::Items;
 use std::alloc::{AllocError, Global};
 use sx_kinds::{
-    Body, Construct, ConstructKind, Instr, InstrForm, OnNoMatch, Pattern, Template, Templates,
+    Body, Construct, ConstructKind, Instr, InstrForm, NamePattern, OnNoMatch, Template, Templates,
 };
 use sx_names::Names;
 use sx_tree::{Chars, Label};
@@ -102,7 +102,7 @@ fn template_start(count: u64, line: u64, name: u64) -> TemplateStart
 {
     TemplateStart {
         construct: next_construct(count, line, ConstructKind::Template),
-        pattern: Pattern {
+        pattern: NamePattern {
             construct: Construct {
                 number: count + 2,
                 line,

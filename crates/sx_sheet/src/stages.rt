@@ -2,13 +2,13 @@
 ghost use Rattle.std.specs.Prelude.{◌≡◌};
 ghost use Rattle.sx_sheet.specs.Machine as machine;
 
-use sx_kinds::{Construct, Pattern};
+use sx_kinds::{Construct, NamePattern};
 
 /// A template without its body.
 #[derive(Clone, Copy)]
 pub(crate) struct TemplateStart {
     pub construct: Construct,
-    pub pattern: Pattern,
+    pub pattern: NamePattern,
 }
 
 /// What comes next.

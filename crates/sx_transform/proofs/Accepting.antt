@@ -4,7 +4,7 @@ use Rattle.sx_kinds.specs.declared.constructs.Construct.{Construct}
 use Rattle.sx_kinds.specs.declared.constructs.Instr.{Instr}
 use Rattle.sx_kinds.specs.declared.constructs.Instr.TheFolds.{fold-roll-Instr}
 use Rattle.sx_kinds.specs.declared.constructs.InstrForm.TheVariants as form
-use Rattle.sx_kinds.specs.declared.constructs.Pattern.{Pattern}
+use Rattle.sx_kinds.specs.declared.constructs.NamePattern.{NamePattern}
 use Rattle.sx_kinds.specs.declared.sheets.OnNoMatch.{OnNoMatch}
 use Rattle.sx_kinds.specs.declared.sheets.OnNoMatch.TheVariants as unmatched
 use Rattle.sx_kinds.specs.declared.sheets.Sheet.{Sheet}

@@ -4,6 +4,7 @@
 mod ancestors;
 mod events;
 mod open_tree;
+mod steps;
 #[cfg(test)]
 mod tests;
 mod text;
@@ -11,4 +12,5 @@ mod text;
 pub use ancestors::{Leaf, Spine, SpineItem};
 pub use events::{Attr, Attrs, Event, Label, Space, Spaces, copy_attrs, copy_spaces};
 pub use open_tree::{Full, NodeTable, OpenTree};
+pub use steps::{Axis, NodeTest};
 pub use text::Chars;
