@@ -7,7 +7,7 @@ ghost use Rattle.sx_build.specs.FixUp as fix;
 use std::marker::Model;
 use sx_tree::Chars;
 
-// A binding of a prefix to a namespace. The empty prefix is the default one; the empty namespace is none.
+/// A binding of a prefix to a namespace. The empty prefix is the default one; the empty namespace is none.
 #[derive(Drop)]
 pub struct Binding {
     prefix: Chars,
@@ -23,18 +23,21 @@ impl Model for Binding {
 }
 
 impl Binding {
+    /// The binding of this prefix to this namespace.
     pub fn new(prefix: Chars, uri: Chars) -> Binding
         ensures { result ≡ fix.bind prefix uri }
     {
         Binding { prefix, uri }
     }
 
+    /// Its prefix.
     pub fn prefix(&self) -> &str
         ensures { result.now ≡ self.now.prefix }
     {
         self.prefix.as_str()
     }
 
+    /// Its namespace.
     pub fn uri(&self) -> &str
         ensures { result.now ≡ self.now.uri }
     {
@@ -66,15 +69,15 @@ fn last<'a>(bindings: &'a [Binding], prefix: &str) -> Option<&'a Binding>
     None
 }
 
-// Whether one of these binds a prefix.
+/// Whether one of these binds a prefix.
 pub fn declares(bindings: &[Binding], prefix: &str) -> bool
     ensures { result ≡ fix.is_one_of (fix.prefixes bindings.now) prefix.now }
 {
     first(bindings, prefix).is_some()
 }
 
-// The binding of a prefix where an element declares some, in order, and the elements around it have declared others, the
-// innermost last.
+/// The binding of a prefix where an element declares some, in order, and the elements around it have declared others, the
+/// innermost last.
 pub fn declared<'a>(own: &'a [Binding], outer: &'a [Binding], prefix: &str) -> Option<&'a Binding>
     ensures { option_copied result ≡ first_of (own.now ++ reverse outer.now) prefix.now }
 {
@@ -84,7 +87,7 @@ pub fn declared<'a>(own: &'a [Binding], outer: &'a [Binding], prefix: &str) -> O
     }
 }
 
-// Whether a prefix is bound to a namespace there.
+/// Whether a prefix is bound to a namespace there.
 pub fn binds(own: &[Binding], outer: &[Binding], prefix: &str, uri: &str) -> bool
     ensures { result ≡ fix.binds (own.now ++ in_force outer.now) prefix.now uri.now }
 {
@@ -94,7 +97,7 @@ pub fn binds(own: &[Binding], outer: &[Binding], prefix: &str, uri: &str) -> boo
     }
 }
 
-// Whether a prefix is bound there.
+/// Whether a prefix is bound there.
 pub fn has_binding(own: &[Binding], outer: &[Binding], prefix: &str) -> bool
     ensures { result ≡ fix.is_one_of (fix.prefixes (own.now ++ in_force outer.now)) prefix.now }
 {

@@ -91,9 +91,9 @@ fn print_atom(alloc: Global, behind_atom: bool, print: &str) -> Result<Chars, Al
     if !behind_atom {
         return Chars::copy(alloc, print);
     }
-    let mut text = String::from_str(alloc, " ")?;
+    let mut text = Chars::copy(alloc, " ")?;
     text.push_str(print)?;
-    Chars::copy(alloc, text.as_str())
+    Ok(text)
 }
 
 impl Builder {

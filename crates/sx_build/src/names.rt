@@ -13,7 +13,7 @@ use std::marker::Model;
 use sx_names::Names;
 use sx_tree::Chars;
 
-// A name that is written out.
+/// A name that is written out.
 #[derive(Drop)]
 pub struct Name {
     prefix: Chars,
@@ -31,38 +31,42 @@ impl Model for Name {
 }
 
 impl Name {
+    /// The name with this prefix, namespace and local name.
     pub fn new(prefix: Chars, uri: Chars, local: Chars) -> Name
         ensures { result ≡ name_with prefix uri local }
     {
         Name { prefix, uri, local }
     }
 
+    /// Its prefix, which is empty where it has none.
     pub fn prefix(&self) -> &str
         ensures { result.now ≡ self.now.prefix }
     {
         self.prefix.as_str()
     }
 
+    /// Its namespace, which is empty where it is in none.
     pub fn uri(&self) -> &str
         ensures { result.now ≡ self.now.uri }
     {
         self.uri.as_str()
     }
 
+    /// Its local name.
     pub fn local(&self) -> &str
         ensures { result.now ≡ self.now.local }
     {
         self.local.as_str()
     }
 
-    // Whether two names have the same namespace and local name.
+    /// Whether two names have the same namespace and local name.
     pub fn is_same(&self, other: &Name) -> bool
         ensures { result ≡ named.is_same_name self.now other.now }
     {
         self.uri() == other.uri() && self.local() == other.local()
     }
 
-    // The name with its prefix.
+    /// The name with its prefix.
     pub fn print(&self, alloc: Global) -> Result<Chars, AllocError>
         ensures { IfOk result (λ name. name ≡ spec.printed_name self.now) }
     {
@@ -70,7 +74,7 @@ impl Name {
     }
 }
 
-// The namespace of the name with this number, or none where no name has it.
+/// The namespace of the name with this number, or none where no name has it.
 pub fn uri_at(names: &Names, number: u64) -> &str
     ensures { result.now ≡ table.uri_at names.now number }
 {
@@ -80,7 +84,7 @@ pub fn uri_at(names: &Names, number: u64) -> &str
     names.uri(number)
 }
 
-// The local name with this number, or the empty text where no name has it.
+/// The local name with this number, or the empty text where no name has it.
 pub fn local_at(names: &Names, number: u64) -> &str
     ensures { result.now ≡ table.local_at names.now number }
 {
@@ -90,20 +94,21 @@ pub fn local_at(names: &Names, number: u64) -> &str
     names.local(number)
 }
 
-// A local name behind its prefix, where it has one.
+/// A local name behind its prefix, where it has one.
 pub fn prefixed(alloc: Global, prefix: &str, local: &str) -> Result<Chars, AllocError>
     ensures { IfOk result (λ name. name ≡ chars.prefixed prefix.now local.now) }
 {
     if prefix.is_empty() {
         return Chars::copy(alloc, local);
     }
-    let mut name = String::from_str(alloc, prefix)?;
+    let mut name = Chars::new(alloc);
+    name.push_str(prefix)?;
     name.push_str(":")?;
     name.push_str(local)?;
-    Chars::copy(alloc, name.as_str())
+    Ok(name)
 }
 
-// The name of the attribute that declares a prefix.
+/// The name of the attribute that declares a prefix.
 pub fn declaration_name(alloc: Global, prefix: &str) -> Result<Chars, AllocError>
     ensures { IfOk result (λ name. name ≡ spec.declaration_name prefix.now) }
 {
@@ -113,12 +118,12 @@ pub fn declaration_name(alloc: Global, prefix: &str) -> Result<Chars, AllocError
     prefixed(alloc, "xmlns", prefix)
 }
 
-// The prefix `ns` with this number.
+/// The prefix `ns` with this number.
 pub fn numbered_prefix(alloc: Global, number: usize) -> Result<Chars, AllocError>
     ensures { IfOk result (λ prefix. prefix ≡ fix.numbered_prefix number) }
 {
     let mut digits = Buffer::new();
-    let mut prefix = String::from_str(alloc, "ns")?;
+    let mut prefix = Chars::copy(alloc, "ns")?;
     prefix.push_str(digits.format(number))?;
-    Chars::copy(alloc, prefix.as_str())
+    Ok(prefix)
 }

@@ -19,7 +19,7 @@ use sx_lines::{Built, Pair};
 use sx_names::Names;
 use sx_tree::{Attr, Chars, Label};
 
-// A start, kept as it is built.
+/// A start, kept as it is built.
 #[derive(Drop)]
 pub struct Withheld {
     // its name as it is printed
@@ -115,7 +115,7 @@ fn first_pairs(alloc: Global, pairs: &[Pair], count: usize) -> Result<Vec<Pair>,
 impl Withheld {
     ghost use Rattle.sx_build.specs.Withheld.{Holds};
 
-    // The start of an element that has no attributes yet, where the elements around it have declared these bindings.
+    /// The start of an element that has no attributes yet, where the elements around it have declared these bindings.
     pub fn new(
         alloc: Global,
         label: Label,
@@ -143,14 +143,14 @@ impl Withheld {
         Ok(start)
     }
 
-    // Its name as it is printed.
+    /// Its name as it is printed.
     pub fn name(&self) -> &str
         ensures { result.now ≡ self.now.name }
     {
         self.name.as_str()
     }
 
-    // The start as it is built, and what it declares, in order.
+    /// The start as it is built, and what it declares, in order.
     pub fn into_parts(self) -> (Built, Vec<Binding>)
         ensures event { result.0 ≡ event.Start self.name self.pairs.items }
         ensures declared { result.1 ≡ self.declared }
@@ -401,7 +401,7 @@ impl Withheld {
         }
     }
 
-    // An attribute more: it takes the place of an earlier one of the same namespace and local name, or goes behind all.
+    /// An attribute more: it takes the place of an earlier one of the same namespace and local name, or goes behind all.
     pub fn add(
         &mut self,
         alloc: Global,
