@@ -1,8 +1,8 @@
 -- What a builder stands for after one more request, at the end, and when it has given what is fixed.
-use Rattle.std.proofs.Common.{◌≡◌, ℕ, suc, ◌⊎◌, inl, inr, Bool, true, false, List, [], ◌∷◌, ◌++◌, length, take, drop, reverse, Option, Some, None, refl, ap, ap₂, sym, subst, ◌∙◌, append_assoc, append-nil}
-use Rattle.std.specs.Prelude.{is_some, ◌==◌, MatchOption}
-use Rattle.sx_build.proofs.Lists.{not_snoc}
-use Rattle.std.proofs.lemmas.List.{length-reverse, same_from_push, drop_at}
+use Rattle.std.proofs.Common.{◌≡◌, ℕ, suc, Bool, true, false, List, [], ◌∷◌, ◌++◌, length, take, drop, reverse, Option, Some, None, refl, ap, ap₂, sym, subst, ◌∙◌, arith, append_assoc, append-nil}
+use Rattle.std.specs.Prelude.{◌<◌, is_some, ◌==◌, vec_len, vec_capacity}
+use Rattle.std.specs.Global.{Vec}
+use Rattle.std.proofs.lemmas.List.{length-reverse, drop_at}
 use Rattle.std.proofs.lemmas.Bool.{false≢true}
 use Rattle.sx_atoms.specs.declared.error_codes.Code.{Code}
 use Rattle.sx_lines.specs.declared.events.Built.{Built}
@@ -16,7 +16,7 @@ use Rattle.sx_build.specs.Content.{Held, spaced, misplaced}
 use Rattle.sx_build.specs.FixUp.{Binding}
 use Rattle.sx_build.specs.Build.{Open, error_of, Build}
 use Rattle.sx_build.specs.Course.{Course, at_work, held_start, with_held, text_gives, after_text, after_attribute, gives_unless, gives_in, gives, after_unless, after_in, after, reached}
-use Rattle.sx_build.specs.Builder.{AreOpen, HoldsNone, HoldsBack, Withholds, KeepsTo, IsEnded, StandsFor, answer_of}
+use Rattle.sx_build.specs.Builder.{AreOpen, HoldsNone, HoldsOne, HoldsBack, Withholds, KeepsTo, KeepsAt, StandsFor, answer_of}
 use Rattle.sx_build.proofs.Courses.{error_is, reached_one, Build_is, Build_ended, Build_stopped, stopped_holds}
 use Rattle.sx_build.proofs.Standing.{settled_pending}
 use Rattle.sx_build.proofs.Later.{adds_one}
@@ -95,7 +95,7 @@ pub misplaced_taken : (os : List Open) (held : Option Held) (behind_atom : Bool)
     → KeepsTo (after_attribute os held a) (record b { behind_atom = false; error = Some code }) (fixed ++ [])
 misplaced_taken os None behind_atom fixed b a code none is s =
     let n : HoldsNone os b.elements b.bindings.items b.pending fixed =
-    subst (λ (w : Option Withheld). HoldsBack os None w b.elements b.bindings.items b.pending b.spare fixed) none s.withholds in
+    subst (λ (w : Option Withheld). HoldsBack os None w b.elements b.bindings.items b.pending fixed) none s.withholds in
     record {
       withholds = subst (λ (es : List Built). Withholds os None b es) (sym (append-nil fixed)) s.withholds;
       behind_is = refl;
@@ -103,7 +103,7 @@ misplaced_taken os None behind_atom fixed b a code none is s =
           (is ∙ ap misplaced (sym (length-reverse b.elements) ∙ sym (as_many os (reverse b.elements) b.bindings.items n.are_open)));
     }
 misplaced_taken os (Some h) behind_atom fixed b a code none is s =
-    absurd (subst (λ (w : Option Withheld). HoldsBack os (Some h) w b.elements b.bindings.items b.pending b.spare fixed) none s.withholds)
+    absurd (subst (λ (w : Option Withheld). HoldsBack os (Some h) w b.elements b.bindings.items b.pending fixed) none s.withholds)
 
 -- ---- the end
 
@@ -123,7 +123,7 @@ ended_by asked None front fixed is due =
     ∙ sym (Build_ended asked is)
 
 module _ (b b' : Builder) (asked : List Asked) (given : ℕ) (s : StandsFor b asked false given) where
-  pub stands_ended : b'.withheld ≡ None → b'.pending ≡ s.fixed ++ start_left (reached asked) → StandsFor b' asked true given
+  pub stands_ended : b'.withheld ≡ None → b'.pending.items ≡ s.fixed ++ start_left (reached asked) → StandsFor b' asked true given
   stands_ended none is = record {
     front = s.front;
     fixed = s.fixed ++ start_left (reached asked);
@@ -134,102 +134,84 @@ module _ (b b' : Builder) (asked : List Asked) (given : ℕ) (s : StandsFor b as
 
 -- nothing is withheld
 pub none_left : (os : List Open) (held : Option Held) (b : Builder) (fixed : List Built) → b.withheld ≡ None → Withholds os held b fixed
-    → b.pending ≡ fixed ++ held_start os held
+    → b.pending.items ≡ fixed ++ held_start os held
 none_left os None b fixed none s =
     let n : HoldsNone os b.elements b.bindings.items b.pending fixed =
-    subst (λ (w : Option Withheld). HoldsBack os None w b.elements b.bindings.items b.pending b.spare fixed) none s in
+    subst (λ (w : Option Withheld). HoldsBack os None w b.elements b.bindings.items b.pending fixed) none s in
     n.pending_is ∙ sym (append-nil fixed)
 none_left os (Some h) b fixed none s =
-    absurd (subst (λ (w : Option Withheld). HoldsBack os (Some h) w b.elements b.bindings.items b.pending b.spare fixed) none s)
+    absurd (subst (λ (w : Option Withheld). HoldsBack os (Some h) w b.elements b.bindings.items b.pending fixed) none s)
 
--- a start is withheld, and put in its place
+-- a start is withheld, for which there is room, and is put behind what is fixed
 pub one_left : (os : List Open) (held : Option Held) (b : Builder) (fixed pending' : List Built) (w : Withheld) (e : Built) → b.withheld ≡ Some w → Withholds os held b fixed
-    → e ≡ event.Start w.name w.pairs.items
-    → ((rest : List Built) (last : Built) → b.pending ≡ rest ++ last ∷ [] → pending' ≡ rest ++ e ∷ [])
+    → e ≡ event.Start w.name w.pairs.items → (vec_len b.pending < vec_capacity b.pending → pending' ≡ b.pending.items ++ e ∷ [])
     → pending' ≡ fixed ++ held_start os held
-one_left os None b fixed pending' w e some s is was_set =
-    absurd (subst (λ (x : Option Withheld). HoldsBack os None x b.elements b.bindings.items b.pending b.spare fixed) some s)
-one_left os (Some h) b fixed pending' w e some s is was_set =
-    settled_pending os h w b.elements b.bindings.items b.pending b.spare fixed
-    (subst (λ (x : Option Withheld). HoldsBack os (Some h) x b.elements b.bindings.items b.pending b.spare fixed) some s)
-    pending' e is was_set
+one_left os None b fixed pending' w e some s is pushed =
+    absurd (subst (λ (x : Option Withheld). HoldsBack os None x b.elements b.bindings.items b.pending fixed) some s)
+one_left os (Some h) b fixed pending' w e some s is pushed =
+    let one : HoldsOne os h w b.elements b.bindings.items b.pending fixed =
+    subst (λ (x : Option Withheld). HoldsBack os (Some h) x b.elements b.bindings.items b.pending fixed) some s in
+    settled_pending os h w b.elements b.bindings.items b.pending fixed one pending' e is (pushed one.room)
 
 -- ---- what is given
 
--- behind what is fixed a place is kept
-place_kept : (os : List Open) (held : Option Held) (w : Option Withheld) (elements : List Element) (bindings : List Binding) (pending spare fixed : List Built)
-    → is_some w ≡ true → HoldsBack os held w elements bindings pending spare fixed
-    → (place : Built) × (pending ≡ fixed ++ place ∷ []) × ((fixed ≡ []) ⊎ (length spare ≡ 1))
-place_kept os None None elements bindings pending spare fixed some s = absurd (false≢true some)
-place_kept os None (Some w) elements bindings pending spare fixed some s = absurd s
-place_kept os (Some h) None elements bindings pending spare fixed some s = absurd s
-place_kept os (Some h) (Some w) elements bindings pending spare fixed some s = (s.place, s.pending_is, s.room)
+-- what is pending is fixed
+pending_fixed : (os : List Open) (held : Option Held) (w : Option Withheld) (elements : List Element) (bindings : List Binding) (pending : Vec Built) (fixed : List Built)
+    → HoldsBack os held w elements bindings pending fixed → pending.items ≡ fixed
+pending_fixed os None None elements bindings pending fixed s = s.pending_is
+pending_fixed os None (Some w) elements bindings pending fixed s = absurd s
+pending_fixed os (Some h) None elements bindings pending fixed s = absurd s
+pending_fixed os (Some h) (Some w) elements bindings pending fixed s = s.pending_is
 
--- the place alone is left
-left_alone : (os : List Open) (held : Option Held) (w : Option Withheld) (elements : List Element) (bindings : List Binding) (pending pending' spare spare' fixed : List Built)
-    (place : Built) → is_some w ≡ true → pending' ≡ place ∷ [] → HoldsBack os held w elements bindings pending spare fixed
-    → HoldsBack os held w elements bindings pending' spare' []
-left_alone os None None elements bindings pending pending' spare spare' fixed place some is s = absurd (false≢true some)
-left_alone os None (Some w) elements bindings pending pending' spare spare' fixed place some is s = absurd s
-left_alone os (Some h) None elements bindings pending pending' spare spare' fixed place some is s = absurd s
-left_alone os (Some h) (Some w) elements bindings pending pending' spare spare' fixed place some is s = record {
-  rest = s.rest;
-  last = s.last;
-  place = place;
-  elements_are = s.elements_are;
-  last_name = s.last_name;
-  last_begins = s.last_begins;
-  are_open = s.are_open;
-  holds = s.holds;
-  pending_is = is;
-  room = inl refl;
-}
-
-not_ended : (b : Builder) (fixed : List Built) → is_some b.withheld ≡ true → IsEnded b fixed → ⊥
-not_ended b fixed some s = false≢true (sym (ap (λ (w : Option Withheld). is_some w) s.none_withheld) ∙ some)
-
--- where a start is withheld, all but the last is given
-module _ (b : Builder) (asked : List Asked) (given : ℕ) (some : is_some b.withheld ≡ true) (taken rest : List Built) (popped : Option Built)
-    (is : taken ≡ b.pending) (pop : MatchOption popped ((taken ≡ []) × (rest ≡ [])) (λ (last : Built). taken ≡ rest ++ last ∷ [])) where
-  rest_is : (popped : Option Built) → MatchOption popped ((taken ≡ []) × (rest ≡ [])) (λ (last : Built). taken ≡ rest ++ last ∷ []) → (fixed : List Built) (place : Built)
-      → b.pending ≡ fixed ++ place ∷ [] → rest ≡ fixed
-  rest_is None was fixed place are = absurd (not_snoc fixed place (sym was.0 ∙ is ∙ are))
-  rest_is (Some last) was fixed place are = (same_from_push rest fixed last place (sym was ∙ is ∙ are)).0
-
+module _ (b : Builder) (asked : List Asked) (given : ℕ) where
   is_due : (at_end : Bool) (s : StandsFor b asked at_end given) → s.fixed ≡ drop given (Build asked at_end)
   is_due at_end s = sym (ap (drop given) (sym s.due) ∙ drop_at s.front s.fixed given s.count)
 
-  pub gives_rest : (at_end : Bool) → StandsFor b asked at_end given → rest ≡ drop given (Build asked at_end)
-  gives_rest true s = absurd (not_ended b s.fixed some s.keeps)
+  pub gives_rest : (at_end : Bool) → StandsFor b asked at_end given → b.pending.items ≡ drop given (Build asked at_end)
+  gives_rest true s = s.keeps.pending_is ∙ is_due true s
   gives_rest false s =
       let c = reached asked in
-      let kept = place_kept c.elements c.held b.withheld b.elements b.bindings.items b.pending b.spare s.fixed some s.keeps.withholds in
-      rest_is popped pop s.fixed kept.0 kept.1 ∙ is_due false s
+      pending_fixed c.elements c.held b.withheld b.elements b.bindings.items b.pending s.fixed s.keeps.withholds ∙ is_due false s
 
-  one_item : (xs : List Built) → length xs ≡ 1 → (x : Built) × (xs ≡ x ∷ [])
-  one_item [] e = absurd (cc)
-  one_item (x ∷ []) e = (x, refl)
-  one_item (x ∷ y ∷ xs) e = absurd (cc)
+-- ---- all that is fixed was given
 
-  at_hand : (fixed : List Built) (place : Built) → b.pending ≡ fixed ++ place ∷ [] → (length b.pending ≡ 1 → ⊥) → (fixed ≡ []) ⊎ (length b.spare ≡ 1) → length b.spare ≡ 1
-  at_hand fixed place are more (inl none) = absurd (more (ap length are ∙ ap (λ (es : List Built). length (es ++ place ∷ [])) none))
-  at_hand fixed place are more (inr one) = one
+module _ (pending pending' : Vec Built) (none : pending'.items ≡ []) (empty : vec_len pending' ≡ 0) (same : vec_capacity pending' ≡ vec_capacity pending) where
+  cleared : (os : List Open) (held : Option Held) (w : Option Withheld) (elements : List Element) (bindings : List Binding) (fixed : List Built)
+      → HoldsBack os held w elements bindings pending fixed → HoldsBack os held w elements bindings pending' []
+  cleared os None None elements bindings fixed s = record { are_open = s.are_open; pending_is = none }
+  cleared os None (Some w) elements bindings fixed s = absurd s
+  cleared os (Some h) None elements bindings fixed s = absurd s
+  cleared os (Some h) (Some w) elements bindings fixed s = record {
+    rest = s.rest;
+    last = s.last;
+    elements_are = s.elements_are;
+    last_name = s.last_name;
+    last_begins = s.last_begins;
+    are_open = s.are_open;
+    holds = s.holds;
+    pending_is = none;
+    room = omega (arith, empty, same, s.room);
+  }
 
-  pub stands_given : (at_end : Bool) (pending' spare' : List Built) → pending' ≡ b.spare → (length b.pending ≡ 1 → ⊥) → StandsFor b asked at_end given
-      → StandsFor (record b { pending = pending'; spare = spare' }) asked at_end (length (Build asked at_end))
-  stands_given true pending' spare' same more s = absurd (not_ended b s.fixed some s.keeps)
-  stands_given false pending' spare' same more s =
+  cleared_at : (b : Builder) (asked : List Asked) (at_end : Bool) (fixed : List Built) → b.pending ≡ pending → KeepsAt at_end asked b fixed
+      → KeepsAt at_end asked (record b { pending = pending' }) []
+  cleared_at b asked true fixed is s = record { none_withheld = s.none_withheld; pending_is = none }
+  cleared_at b asked false fixed is s =
       let c = reached asked in
-      let kept = place_kept c.elements c.held b.withheld b.elements b.bindings.items b.pending b.spare s.fixed some s.keeps.withholds in
-      let one = one_item b.spare (at_hand s.fixed kept.0 kept.1 more kept.2) in
       record {
-        front = s.front ++ s.fixed;
-        fixed = [];
-        count = ap length s.due;
-        due = append-nil (s.front ++ s.fixed) ∙ s.due;
-        keeps = record {
-          withholds = left_alone c.elements c.held b.withheld b.elements b.bindings.items b.pending pending' b.spare spare' s.fixed one.0 some (same ∙ one.1) s.keeps.withholds;
-          behind_is = s.keeps.behind_is;
-          error_is = s.keeps.error_is;
-        };
+        withholds = cleared c.elements c.held b.withheld b.elements b.bindings.items fixed
+            (subst (λ (p : Vec Built). HoldsBack c.elements c.held b.withheld b.elements b.bindings.items p fixed) is s.withholds);
+        behind_is = s.behind_is;
+        error_is = s.error_is;
       }
+
+pub stands_given : (b : Builder) (pending' : Vec Built) (asked : List Asked) (at_end : Bool) (given : ℕ) → pending'.items ≡ [] → vec_len pending' ≡ 0
+    → vec_capacity pending' ≡ vec_capacity b.pending → StandsFor b asked at_end given
+    → StandsFor (record b { pending = pending' }) asked at_end (length (Build asked at_end))
+stands_given b pending' asked at_end given none empty same s = record {
+  front = s.front ++ s.fixed;
+  fixed = [];
+  count = ap length s.due;
+  due = append-nil (s.front ++ s.fixed) ∙ s.due;
+  keeps = cleared_at b.pending pending' none empty same b asked at_end s.fixed refl s.keeps;
+}

@@ -1,5 +1,6 @@
 -- What a builder stands for, step by step.
 use Rattle.std.proofs.Common.{◌≡◌, List, [], ◌∷◌, ◌++◌, length, take, reverse, Some, refl, ap, ap₂, sym, subst, ◌∙◌, append_assoc}
+use Rattle.std.specs.Global.{Vec}
 use Rattle.std.proofs.lemmas.List.{reverse-append, reverse-reverse, take_at}
 use Rattle.sx_lines.specs.declared.events.Built.{Built}
 use Rattle.sx_lines.specs.declared.events.Built.TheVariants as event
@@ -40,20 +41,19 @@ start_is os es bindings h w are s =
       s.declared_is ∙ ap (λ (f : Fixed). f.declared) same,
     )
 
-module _ (os : List Open) (h : Held) (w : Withheld) (elements : List Element) (bindings : List Binding) (pending spare fixed : List Built)
-    (s : HoldsOne os h w elements bindings pending spare fixed) where
+module _ (os : List Open) (h : Held) (w : Withheld) (elements : List Element) (bindings : List Binding) (pending : Vec Built) (fixed : List Built)
+    (s : HoldsOne os h w elements bindings pending fixed) where
   f : Fixed
   f = fix_up (bound_in os) h.name h.attributes
 
-  pub settled_pending : (pending' : List Built) (e : Built) → e ≡ event.Start w.name w.pairs.items
-      → ((rest : List Built) (last : Built) → pending ≡ rest ++ last ∷ [] → pending' ≡ rest ++ e ∷ [])
+  pub settled_pending : (pending' : List Built) (e : Built) → e ≡ event.Start w.name w.pairs.items → pending' ≡ pending.items ++ e ∷ []
       → pending' ≡ fixed ++ held_start os (Some h)
-  settled_pending pending' e is was_set =
+  settled_pending pending' e is pushed =
       let start = start_is os (reverse s.rest) bindings h w s.are_open s.holds in
-      was_set fixed s.place s.pending_is ∙ ap (λ (d : Built). fixed ++ d ∷ []) (is ∙ start.0)
+      pushed ∙ ap₂ (λ (es : List Built) (d : Built). es ++ d ∷ []) s.pending_is (is ∙ start.0)
 
-  pub settled : (bindings' declared : List Binding) (pending' : List Built) → declared ≡ w.declared.items → bindings' ≡ bindings ++ reverse declared
-      → pending' ≡ fixed ++ held_start os (Some h)
+  pub settled : (bindings' declared : List Binding) (pending' : Vec Built) → declared ≡ w.declared.items → bindings' ≡ bindings ++ reverse declared
+      → pending'.items ≡ fixed ++ held_start os (Some h)
       → HoldsNone (with_held os (Some h)) elements bindings' pending' (fixed ++ held_start os (Some h))
   settled bindings' declared pending' is bound pending_is =
       let start = start_is os (reverse s.rest) bindings h w s.are_open s.holds in

@@ -1,5 +1,6 @@
 -- What a builder stands for.
-use Rattle.std.specs.Prelude.{◌≡◌, ℕ, Bool, true, false, ◌⊎◌, List, [], ◌∷◌, ◌++◌, length, take, reverse, Option, Some, None, Result, Ok, Err}
+use Rattle.std.specs.Prelude.{◌≡◌, ◌<◌, ℕ, Bool, true, false, vec_len, vec_capacity, List, [], ◌∷◌, ◌++◌, length, take, reverse, Option, Some, None, Result, Ok, Err}
+use Rattle.std.specs.Global.{Vec}
 use Rattle.sx_atoms.specs.declared.error_codes.Code.{Code}
 use Rattle.sx_lines.specs.declared.events.Built.{Built}
 use Rattle.sx_build.specs.declared.builder.Builder.{Builder}
@@ -31,33 +32,31 @@ AreOpen (o ∷ os) [] bindings = ⊥
 AreOpen (o ∷ os) (e ∷ es) bindings = (e.name ≡ o.name) × (o.bound ≡ in_force bindings) × AreOpen os es (take e.begins bindings)
 
 -- no start is withheld: what is pending is fixed
-pub record HoldsNone (os : List Open) (elements : List Element) (bindings : List Binding) (pending fixed : List Built) : Type 0 where
+pub record HoldsNone (os : List Open) (elements : List Element) (bindings : List Binding) (pending : Vec Built) (fixed : List Built) : Type 0 where
   pub are_open : AreOpen os (reverse elements) bindings
-  pub pending_is : pending ≡ fixed
+  pub pending_is : pending.items ≡ fixed
 
--- A start is withheld: its element is the last, and behind what is fixed a place is kept for it; that place stands alone, or
--- a list of one event is at hand.
-pub record HoldsOne (os : List Open) (h : Held) (w : Withheld) (elements : List Element) (bindings : List Binding) (pending spare fixed : List Built) : Type 0 where
+-- a start is withheld: its element is the last, and behind what is fixed there is room for it
+pub record HoldsOne (os : List Open) (h : Held) (w : Withheld) (elements : List Element) (bindings : List Binding) (pending : Vec Built) (fixed : List Built) : Type 0 where
   pub rest : List Element
   pub last : Element
-  pub place : Built
   pub elements_are : elements ≡ rest ++ last ∷ []
   pub last_name : last.name ≡ printed_name h.name
   pub last_begins : last.begins ≡ length bindings
   pub are_open : AreOpen os (reverse rest) bindings
   pub holds : Holds (in_force bindings) h w
-  pub pending_is : pending ≡ fixed ++ place ∷ []
-  pub room : (fixed ≡ []) ⊎ (length spare ≡ 1)
+  pub pending_is : pending.items ≡ fixed
+  pub room : vec_len pending < vec_capacity pending
 
-abbrev pub HoldsBack : List Open → Option Held → Option Withheld → List Element → List Binding → List Built → List Built → List Built → Type 0
-HoldsBack os None None elements bindings pending spare fixed = HoldsNone os elements bindings pending fixed
-HoldsBack os None (Some w) elements bindings pending spare fixed = ⊥
-HoldsBack os (Some h) None elements bindings pending spare fixed = ⊥
-HoldsBack os (Some h) (Some w) elements bindings pending spare fixed = HoldsOne os h w elements bindings pending spare fixed
+abbrev pub HoldsBack : List Open → Option Held → Option Withheld → List Element → List Binding → Vec Built → List Built → Type 0
+HoldsBack os None None elements bindings pending fixed = HoldsNone os elements bindings pending fixed
+HoldsBack os None (Some w) elements bindings pending fixed = ⊥
+HoldsBack os (Some h) None elements bindings pending fixed = ⊥
+HoldsBack os (Some h) (Some w) elements bindings pending fixed = HoldsOne os h w elements bindings pending fixed
 
 -- where these elements are open and this start is held, this is fixed and was not given
 abbrev pub Withholds : List Open → Option Held → Builder → List Built → Type 0
-Withholds os held b fixed = HoldsBack os held b.withheld b.elements b.bindings.items b.pending b.spare fixed
+Withholds os held b fixed = HoldsBack os held b.withheld b.elements b.bindings.items b.pending fixed
 
 -- what building has come to, and what is fixed and was not given
 pub record KeepsTo (c : Course) (b : Builder) (fixed : List Built) : Type 0 where
@@ -68,7 +67,7 @@ pub record KeepsTo (c : Course) (b : Builder) (fixed : List Built) : Type 0 wher
 -- it was told that the content is at its end: nothing is withheld
 pub record IsEnded (b : Builder) (fixed : List Built) : Type 0 where
   pub none_withheld : b.withheld ≡ None
-  pub pending_is : b.pending ≡ fixed
+  pub pending_is : b.pending.items ≡ fixed
 
 abbrev pub KeepsAt : Bool → List Asked → Builder → List Built → Type 0
 KeepsAt false asked b fixed = KeepsTo (reached asked) b fixed

@@ -11,9 +11,8 @@ use crate::bindings::Binding;
 use crate::withheld::Withheld;
 use sqlite_items::Items;
 use std::alloc::{AllocError, Global};
-use std::mem;
 use sx_atoms::Code;
-use sx_lines::{Built, Builts};
+use sx_lines::Built;
 use sx_names::Names;
 use sx_tree::{Attr, Chars, Label};
 
@@ -38,40 +37,13 @@ pub struct Builder {
     elements: Items<Element>,
     // what they have declared but the one whose start is withheld, the innermost last
     bindings: Vec<Binding>,
-    // what was not given yet, with a place for the withheld start behind it
-    pending: Builts,
-    // a list of one event, whatever it is: the place of the withheld start where what stands before it is given, which so
-    // takes no memory
-    spare: Builts,
+    // what is fixed and was not cleared, with room for the withheld start behind it
+    pending: Vec<Built>,
     withheld: Option<Withheld>,
     // whether an atom came last
     behind_atom: bool,
     error: Option<Code>,
     spent: bool,
-}
-
-// An event that stands for none.
-fn placeholder(alloc: Global) -> Built {
-    Built::Text(Chars::new(alloc))
-}
-
-// A list of one event.
-fn one(alloc: Global, e: Built) -> Result<Builts, AllocError>
-    ensures { IfOk result (λ events. events ≡ e ∷ []) }
-{
-    let mut events = Items::new(alloc);
-    events.push(e)?;
-    Ok(events)
-}
-
-// The last of some events is this one instead.
-fn set_last(events: &mut Builts, e: Built)
-    ensures { (rest : List Event) (last : Event) → events.old ≡ rest ++ last ∷ [] → events.new ≡ rest ++ e ∷ [] }
-{
-    let count = events.len();
-    if count > 0 {
-        events.set(count - 1, e);
-    }
 }
 
 // Bindings that an element has declared, in order, go behind those of the elements around it, the first at the end.
@@ -112,8 +84,7 @@ impl Builder {
             alloc,
             elements: Items::new(alloc),
             bindings: Vec::new(alloc),
-            pending: Items::new(alloc),
-            spare: Items::new(alloc),
+            pending: Vec::new(alloc),
             withheld: None,
             behind_atom: false,
             error: None,
@@ -202,7 +173,7 @@ impl Builder {
             None => Ok(()),
             Some(start) => {
                 let (event, declared) = start.into_parts();
-                set_last(&mut self.pending, event);
+                self.pending.push(event)?;
                 bind_all(&mut self.bindings, declared)
             }
         }
@@ -215,25 +186,13 @@ impl Builder {
         ensures kept { OnOk result (is_spent self.new ≡ is_spent self.old) }
     {
         self.settle()?;
-        self.prepare()?;
+        self.pending.reserve(1)?;
         let start = Withheld::new(self.alloc, label, names, &self.bindings)?;
         let name = Chars::copy(self.alloc, start.name())?;
         let begins = self.bindings.len();
         self.elements.push(Element { name, begins })?;
-        self.pending.push(placeholder(self.alloc))?;
         self.withheld = Some(start);
         self.behind_atom = false;
-        Ok(())
-    }
-
-    // A list of one event is at hand.
-    fn prepare(&mut self) -> Result<(), AllocError>
-        ensures spare { OnOk result (length self.new.spare ≡ 1) }
-        ensures kept { self.new ≡ record self.old { spare = self.new.spare } }
-    {
-        if self.spare.len() != 1 {
-            self.spare = one(self.alloc, placeholder(self.alloc))?;
-        }
         Ok(())
     }
 
@@ -315,28 +274,26 @@ impl Builder {
         match self.withheld.take() {
             Some(start) => {
                 let (event, _) = start.into_parts();
-                set_last(&mut self.pending, event);
+                // There is room for it.
+                let _ = self.pending.push(event);
             }
             None => {}
         }
     }
 
-    /// What is fixed and was not given yet, in order. It takes no memory.
-    pub fn drain(&mut self) -> Builts
-        ensures gives { (asked : List Asked) (at_end : Bool) (given : ℕ) → Stands self.old asked at_end given → result ≡ drop given (Build asked at_end) }
+    /// What is fixed and was not cleared yet, in order.
+    pub fn output(&self) -> &[Built]
+        ensures { (asked : List Asked) (at_end : Bool) (given : ℕ) → Stands self.now asked at_end given → result.now ≡ drop given (Build asked at_end) }
+    {
+        self.pending.as_slice()
+    }
+
+    /// Drops what is fixed: it was given. It takes no memory, and keeps that of the list.
+    pub fn clear_output(&mut self)
         ensures stands { (asked : List Asked) (at_end : Bool) (given : ℕ) → Stands self.old asked at_end given
             → Stands self.new asked at_end (length (Build asked at_end)) }
         ensures spent { is_spent self.new ≡ is_spent self.old }
     {
-        if self.withheld.is_none() {
-            return mem::replace(&mut self.pending, Items::new(self.alloc));
-        }
-        if self.pending.len() == 1 {
-            return Items::new(self.alloc);
-        }
-        let place = mem::replace(&mut self.spare, Items::new(self.alloc));
-        let mut fixed = mem::replace(&mut self.pending, place);
-        fixed.pop();
-        fixed
+        self.pending.clear();
     }
 }

@@ -76,9 +76,10 @@ fn push(
 
 // What is given now, each event printed by itself.
 fn give(builder: &mut Builder, printed: &mut Vec<u8>) -> Result<(), AllocError> {
-    for event in builder.drain().as_slice() {
+    for event in builder.output() {
         append(printed, false, event)?;
     }
+    builder.clear_output();
     Ok(())
 }
 

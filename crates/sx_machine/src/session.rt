@@ -18,8 +18,9 @@ use crate::writer::Writer;
 use sqlite_items::Items;
 use std::alloc::{AllocError, Global};
 use sx_atoms::Code;
-use sx_build::{Builts, Raw};
+use sx_build::Raw;
 use sx_kinds::{Mode, OnNoMatch, Sheet};
+use sx_lines::Built;
 use sx_names::Names;
 use sx_tree::{Attrs, Chars, Event, Label};
 
@@ -230,16 +231,22 @@ impl Session {
         self.feed(Event::Close, names)
     }
 
-    /// The built events that are fixed and were not taken yet, in order. It takes no memory.
-    pub fn take_output(&mut self) -> Builts
-        ensures gives { (sheet : Stylesheet) (known : List (List ℕ × List ℕ)) (invocations : ℕ) (p : List (Happening Begun)) (given : ℕ)
-            → Stands sheet known invocations self.old p given → result ≡ drop given (result_for sheet known invocations p).built }
+    /// The built events that are fixed and were not cleared yet, in order.
+    pub fn output(&self) -> &[Built]
+        ensures { (sheet : Stylesheet) (known : List (List ℕ × List ℕ)) (invocations : ℕ) (p : List (Happening Begun)) (given : ℕ)
+            → Stands sheet known invocations self.now p given → result.now ≡ drop given (result_for sheet known invocations p).built }
+    {
+        self.writer.output()
+    }
+
+    /// Drops the built events that are fixed: they were taken. It takes no memory.
+    pub fn clear_output(&mut self)
         ensures stands { (sheet : Stylesheet) (known : List (List ℕ × List ℕ)) (invocations : ℕ) (p : List (Happening Begun)) (given : ℕ)
             → Stands sheet known invocations self.old p given
             → Stands sheet known invocations self.new p (length (result_for sheet known invocations p).built) }
         ensures state { self.new.state ≡ self.old.state }
     {
-        self.writer.drain()
+        self.writer.clear_output();
     }
 
     /// Whether the session goes on, or why not.

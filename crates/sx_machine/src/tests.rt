@@ -178,9 +178,10 @@ fn feed(
 // What is given, each built event printed by itself.
 fn given(alloc: Global, session: &mut Session) -> Result<Vec<u8>, AllocError> {
     let mut bytes = Vec::new(alloc);
-    for event in session.take_output().as_slice() {
+    for event in session.output() {
         append(&mut bytes, false, event)?;
     }
+    session.clear_output();
     Ok(bytes)
 }
 

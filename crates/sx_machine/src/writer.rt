@@ -8,7 +8,8 @@ ghost use Rattle.sx_tree.specs.Named.{attributes_at};
 use sqlite_items::Items;
 use std::alloc::{AllocError, Global};
 use sx_atoms::Code;
-use sx_build::{Builder, Builts, Raw};
+use sx_build::{Builder, Raw};
+use sx_lines::Built;
 use sx_names::Names;
 use sx_tree::Attrs;
 
@@ -97,13 +98,19 @@ impl Writer {
         self.builder.finish();
     }
 
-    /// The built events that are fixed and were not given yet, in order. It takes no memory.
-    pub(crate) fn drain(&mut self) -> Builts
-        ensures gives { (asked : List Asked) (at_end : Bool) (given : ℕ) → StandsFor self.old asked at_end given
-            → result ≡ drop given (Build asked at_end) }
-        ensures stands { (asked : List Asked) (at_end : Bool) (given : ℕ) → StandsFor self.old asked at_end given
+    /// The built events that are fixed and were not cleared yet, in order.
+    pub(crate) fn output(&self) -> &[Built]
+        ensures { (asked : List Asked) (at_end : Bool) (given : ℕ) → StandsFor self.now asked at_end given
+            → result.now ≡ drop given (Build asked at_end) }
+    {
+        self.builder.output()
+    }
+
+    /// Drops the built events that are fixed: they were given. It takes no memory.
+    pub(crate) fn clear_output(&mut self)
+        ensures { (asked : List Asked) (at_end : Bool) (given : ℕ) → StandsFor self.old asked at_end given
             → StandsFor self.new asked at_end (length (Build asked at_end)) }
     {
-        self.builder.drain()
+        self.builder.clear_output();
     }
 }

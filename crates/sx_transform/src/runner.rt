@@ -109,8 +109,8 @@ impl Runner {
         ensures reader { self.new.reader ≡ self.old.reader }
     {
         self.session.feed(event, &mut self.names)?;
-        let output = self.session.take_output();
-        self.after_text = print(&mut self.due, self.after_text, output.as_slice())?;
+        self.after_text = print(&mut self.due, self.after_text, self.session.output())?;
+        self.session.clear_output();
         match self.session.state() {
             State::Going => Ok(true),
             State::Stopped(code) => {
