@@ -12,7 +12,8 @@ abbrev pub asked_attributes : List Attribute → List Asked
 asked_attributes [] = []
 asked_attributes (a ∷ rest) = ask.has a ∷ asked_attributes rest
 
--- the builder was asked for these, and the error is theirs
+-- the builder was asked for these, the error is theirs, and no attribute is left to be asked for
 pub record StandsFor (w : Writer) (asked : List Asked) (at_end : Bool) (given : ℕ) : Type 0 where
   pub builds : builder.Stands w.builder asked at_end given
   pub error_is : w.error ≡ error_of asked
+  pub none_turned : w.turned ≡ []

@@ -1,5 +1,5 @@
 // What a session asks of its builder.
-ghost use Rattle.std.specs.Prelude.{◌≡◌, ◌∷◌, [], ◌++◌, ℕ, List, Bool, true, false, reverse, length, drop, OnOk, IfOk};
+ghost use Rattle.std.specs.Prelude.{◌≡◌, ◌∷◌, [], ◌++◌, ℕ, List, Bool, true, false, reverse, length, drop, OnOk};
 ghost use Rattle.sx_build.specs.Asked.{Asked, asked_at, all_asked_at};
 ghost use Rattle.sx_build.specs.Build.{Build};
 ghost use Rattle.sx_machine.specs.Writer.{StandsFor, asked_attributes};
@@ -7,6 +7,7 @@ ghost use Rattle.sx_tree.specs.Named.{attributes_at};
 
 use sqlite_items::Items;
 use std::alloc::{AllocError, Global};
+use std::mem;
 use sx_atoms::Code;
 use sx_build::{Builder, Raw};
 use sx_lines::Built;
@@ -18,17 +19,18 @@ use sx_tree::Attrs;
 pub struct Writer {
     builder: Builder,
     error: Option<Code>,
+    // the memory of a list of attributes, which is empty
+    turned: Attrs,
 }
 
-// The attributes, the last first, so that each can be taken from the end.
-fn turned(alloc: Global, mut attrs: Attrs) -> Result<Attrs, AllocError>
-    ensures { IfOk result (λ turned. turned ≡ reverse attrs) }
+// The attributes go behind others, the last first, so that each can be taken from the end.
+fn turn(turned: &mut Attrs, mut attrs: Attrs) -> Result<(), AllocError>
+    ensures { OnOk result (turned.new ≡ turned.old ++ reverse attrs) }
 {
-    let mut turned = Items::new(alloc);
     while let Some(attr) = attrs.pop() {
         turned.push(attr)?;
     }
-    Ok(turned)
+    Ok(())
 }
 
 impl Writer {
@@ -39,6 +41,7 @@ impl Writer {
         Writer {
             builder: Builder::new(alloc),
             error: None,
+            turned: Items::new(alloc),
         }
     }
 
@@ -77,10 +80,12 @@ impl Writer {
         ensures { OnOk result ((asked : List Asked) (given : ℕ) → StandsFor self.old asked false given
             → StandsFor self.new (asked ++ asked_attributes (attributes_at names.now attrs)) false given) }
     {
-        let mut turned = turned(alloc, attrs)?;
+        let mut turned = mem::replace(&mut self.turned, Items::new(alloc));
+        turn(&mut turned, attrs)?;
         while let Some(attr) = turned.pop() {
             self.push(Raw::Attr(attr), names)?;
         }
+        self.turned = turned;
         Ok(())
     }
 

@@ -15,4 +15,5 @@ returns c = λ asked given s. record {
   builds = c.in_ok-push.ensures.stands asked given s.builds;
   error_is = c.err-self.ensures.value ∙ ap result_err (c.in_ok-push.ensures.answer asked given s.builds)
       ∙ err_answered (error_of (asked ++ asked_at c.args.names.now c.args.raw ∷ []));
+  none_turned = s.none_turned;
 }
