@@ -12,3 +12,4 @@ pub mod Lines
 pub mod Endings
 pub mod Readings
 pub mod Feedings
+pub mod Values

@@ -11,9 +11,8 @@ use Rattle.sx_tree.specs.declared.events.Event.TheVariants as event
 use Rattle.sx_tree.specs.declared.events.Label.{Label}
 use Rattle.sx_events.specs.Course.{Lined}
 use Rattle.sx_events.specs.Pending.{held_in, held, IsKnownIn, AreKnown, Pends}
-use Rattle.sx_events.specs.Place.{all_bound, attributes_in, is_bound_prefix, is_empty, attribute_name}
+use Rattle.sx_events.specs.Place.{Written, all_bound, attributes_in, is_bound_prefix, is_empty, attribute_name}
 use Rattle.sx_events.specs.Starting.{IsLabelOf, AreAttributesOf}
-use Rattle.sx_events.specs.declared.attributes.Written.{Written}
 use Rattle.sx_events.specs.declared.pending.Pending.{Pending}
 use Rattle.sx_events.specs.declared.pending.Waiting.{Waiting}
 use Rattle.sx_chars.specs.Names.{prefix_of}

@@ -11,10 +11,8 @@ use Rattle.sx_tree.specs.declared.events.Attr.{Attr}
 use Rattle.sx_tree.specs.declared.events.Label.{Label}
 use Rattle.sx_tree.specs.declared.events.Space.{Space}
 use Rattle.sx_events.specs.Course.{begun}
-use Rattle.sx_events.specs.Place.{Place, spaces_of, ordinary, scope_with, declares_twice, has_bad, start_fault, is_bound_prefix, all_bound, element_name, attributes_in, has_name, has_double}
-use Rattle.sx_events.specs.Standing.{AreWaiting}
+use Rattle.sx_events.specs.Place.{Place, Written, spaces_of, ordinary, scope_with, declares_twice, has_bad, start_fault, is_bound_prefix, all_bound, element_name, attributes_in, has_name, has_double}
 use Rattle.sx_events.specs.Starting.{IsLabelOf, AreAttributesOf, spaces_fault, has_number, has_double_number}
-use Rattle.sx_events.specs.declared.attributes.Attributes.{Attributes}
 use Rattle.sx_events.specs.declared.faults.Which.TheVariants as which
 use Rattle.sx_events.specs.declared.limits.Limits.{Limits}
 use Rattle.sx_events.proofs.Namings.{label_stays}
@@ -68,12 +66,12 @@ after_all false false true u v h i j = absurd (cc)
 after_all false false false true v h i j = absurd (cc)
 after_all false false false false v h i j = refl
 
-module _ (limits : Limits) (p : Place) (name : List ℕ) (waiting : Attributes) (wait : AreWaiting waiting p.attributes)
+module _ (limits : Limits) (p : Place) (name : List ℕ) (lines : List Written) (declared : List Space) (lines_are : lines ≡ ordinary p.attributes) (declared_are : declared ≡ spaces_of p.attributes)
     (scope : List (List (List ℕ × List ℕ))) (in_force : scope ≡ scope_with p p.attributes)
     (named with_attributes : List (List ℕ × List ℕ)) (kept : KeepsPlaces named with_attributes)
-    (label : Label) (attrs : List Attr) (it : IsLabelOf named (element_name scope name) label) (all : AreAttributesOf with_attributes (attributes_in scope waiting.ordinary.items) attrs)
-    (spaces : spaces_fault waiting.spaces ≡ None) (room : not (nat_lt (length p.opened) limits.depth) ≡ false)
-    (bound : true ≡ is_bound_prefix scope name) (all_are : true ≡ all_bound scope waiting.ordinary.items)
+    (label : Label) (attrs : List Attr) (it : IsLabelOf named (element_name scope name) label) (all : AreAttributesOf with_attributes (attributes_in scope lines) attrs)
+    (spaces : spaces_fault declared ≡ None) (room : not (nat_lt (length p.opened) limits.depth) ≡ false)
+    (bound : true ≡ is_bound_prefix scope name) (all_are : true ≡ all_bound scope lines)
     (distinct : IsDistinct with_attributes) where
   abbrev scope_here : List (List (List ℕ × List ℕ))
   scope_here = scope_with p p.attributes
@@ -82,24 +80,24 @@ module _ (limits : Limits) (p : Place) (name : List ℕ) (waiting : Attributes) 
   bound_here =
       ap₂ (λ (x y : Bool). not (x && y))
       (ap (λ (s : List (List (List ℕ × List ℕ))). is_bound_prefix s name) (sym in_force) ∙ sym bound)
-      (ap₂ all_bound (sym in_force) (sym wait.ordinary) ∙ sym all_are)
+      (ap₂ all_bound (sym in_force) (sym lines_are) ∙ sym all_are)
 
   attributes_here : attributes_at with_attributes attrs ≡ attributes_in scope_here (ordinary p.attributes)
-  attributes_here = all.are ∙ ap₂ attributes_in in_force wait.ordinary
+  attributes_here = all.are ∙ ap₂ attributes_in in_force lines_are
 
   pub start_fault_is : (v : Bool) → v ≡ has_double_number attrs → start_fault limits p name ≡ cond v (Some which.DoubleAttr) None
   start_fault_is v is =
       after_all (declares_twice (spaces_of p.attributes)) (has_bad (spaces_of p.attributes)) (not (nat_lt (length p.opened) limits.depth))
       (not (is_bound_prefix scope_here name && all_bound scope_here (ordinary p.attributes))) (has_double (attributes_in scope_here (ordinary p.attributes)))
-      (ap spaces_fault (sym wait.spaces) ∙ spaces) room bound_here
+      (ap spaces_fault (sym declared_are) ∙ spaces) room bound_here
       ∙ ap (λ (d : Bool). cond d (Some which.DoubleAttr) None) (ap has_double (sym attributes_here) ∙ sym (same_doubles with_attributes distinct attrs all.known) ∙ sym is)
 
-  pub event_is : tree.starts (record { name = name_at with_attributes label; attributes = attributes_at with_attributes attrs; spaces = waiting.spaces }) ≡ tree.starts (begun p name)
+  pub event_is : tree.starts (record { name = name_at with_attributes label; attributes = attributes_at with_attributes attrs; spaces = declared }) ≡ tree.starts (begun p name)
   event_is =
       let stays = label_stays named with_attributes kept (element_name scope name) label it in
-      ap₂ (λ (n : Name) (rest : List Attribute). tree.starts (record { name = n; attributes = rest; spaces = waiting.spaces }))
+      ap₂ (λ (n : Name) (rest : List Attribute). tree.starts (record { name = n; attributes = rest; spaces = declared }))
       (stays.is ∙ ap (λ (s : List (List (List ℕ × List ℕ))). element_name s name) in_force) attributes_here
-      ∙ ap (λ (s : List Space). tree.starts (record { name = element_name scope_here name; attributes = attributes_in scope_here (ordinary p.attributes); spaces = s })) wait.spaces
+      ∙ ap (λ (s : List Space). tree.starts (record { name = element_name scope_here name; attributes = attributes_in scope_here (ordinary p.attributes); spaces = s })) declared_are
 
   pub label_known : IsNumbered with_attributes label
   label_known = (label_stays named with_attributes kept (element_name scope name) label it).known

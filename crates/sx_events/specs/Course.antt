@@ -8,12 +8,11 @@ use Rattle.sx_esis.specs.declared.faults.LineWhich.TheVariants as in_line
 use Rattle.sx_tree.specs.Tree as tree
 use Rattle.sx_tree.specs.Tree.{Happening}
 use Rattle.sx_tree.specs.Named.{Begun}
-use Rattle.sx_events.specs.declared.attributes.Written.{Written}
 use Rattle.sx_events.specs.declared.limits.Limits.{Limits}
 use Rattle.sx_events.specs.declared.faults.Which.{Which}
 use Rattle.sx_events.specs.declared.faults.Which.TheVariants as which
 use Rattle.sx_events.specs.declared.faults.DocFault.{DocFault}
-use Rattle.sx_events.specs.Place.{Place, beginning, spaces_of, ordinary, scope_with, element_name, attributes_in, fault_of, end_fault}
+use Rattle.sx_events.specs.Place.{Place, Written, beginning, spaces_of, ordinary, scope_with, element_name, attributes_in, fault_of, end_fault}
 
 -- What happens, and the line that it stands on, counted from 1: of a run of text its last text line, of the close the
 -- number of lines.

@@ -6,10 +6,17 @@ use Rattle.sx_esis.specs.Lines.{Line, starts, ends, has, lacks, says, instructs,
 use Rattle.sx_names.specs.Scope.{bound}
 use Rattle.sx_tree.specs.Named.{Name, is_same_name, Attribute}
 use Rattle.sx_tree.specs.declared.events.Space.{Space}
-use Rattle.sx_events.specs.declared.attributes.Written.{Written}
 use Rattle.sx_events.specs.declared.limits.Limits.{Limits}
 use Rattle.sx_events.specs.declared.faults.Which.{Which}
 use Rattle.sx_events.specs.declared.faults.Which.TheVariants as which
+
+-- an attribute line: the name as it is written, and the value
+pub record Written : Type 0 where
+  pub name : List ℕ
+  pub value : List ℕ
+
+abbrev pub written : List ℕ → List ℕ → Written
+written name value = record { name = name; value = value }
 
 -- What is known behind some lines: how many they are; the names of the open elements as they are written, and what each
 -- declares, the innermost first; whether there was a root, and whether the document conformed; the attributes that wait

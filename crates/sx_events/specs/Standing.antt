@@ -1,11 +1,10 @@
 -- What the parts of a reader of events stand for.
-use Rattle.std.specs.Prelude.{◌≡◌, ℕ, suc, ◌+◌, ◌^◌, ◌≤◌, false, not, ◌&&◌, ◌||◌, List, [], ◌∷◌, ◌++◌, length, Option, Some, None, if◌then◌else◌}
+use Rattle.std.specs.Prelude.{◌≡◌, ℕ, suc, ◌+◌, ◌^◌, ◌≤◌, false, not, ◌&&◌, ◌||◌, List, [], ◌∷◌, ◌++◌, length, take, Option, Some, None, if◌then◌else◌}
 use Rattle.sx_esis.specs.Lines.{Line}
 use Rattle.sx_events.specs.Course.{behind, events_at, run_in}
-use Rattle.sx_events.specs.Place.{Place, spaces_of, ordinary, is_root_closed, is_of_element, needs_root, may_follow_attributes, is_mismatch, own_fault, fault_of}
+use Rattle.sx_events.specs.Place.{Place, Written, spaces_of, ordinary, is_root_closed, is_of_element, needs_root, may_follow_attributes, is_mismatch, own_fault, fault_of}
 use Rattle.sx_events.specs.Pending.{AreKnown, IsIdle, IsRun, held, count_held}
 use Rattle.sx_events.specs.declared.attributes.Attributes.{Attributes}
-use Rattle.sx_events.specs.declared.attributes.Written.{Written}
 use Rattle.sx_events.specs.declared.elements.Elements.{Elements}
 use Rattle.sx_events.specs.declared.faults.Which.{Which}
 use Rattle.sx_events.specs.declared.faults.Which.TheVariants as which
@@ -25,9 +24,13 @@ AreNames text starts (name ∷ names) =
 abbrev pub Holds : Elements → List (List ℕ) → Type 0
 Holds e names = AreNames e.text.items e.starts.items names
 
+-- the attribute lines that wait and declare nothing; behind them stand others, which wait no longer
+abbrev pub lines_of : Attributes → List Written
+lines_of a = take a.count a.lines.items
+
 -- these attribute lines wait
 pub record AreWaiting (a : Attributes) (attributes : List Written) : Type 0 where
-  pub ordinary : a.ordinary.items ≡ ordinary attributes
+  pub ordinary : lines_of a ≡ ordinary attributes
   pub spaces : a.spaces ≡ spaces_of attributes
 
 -- limits by which every number of a line is exact, and every open element has room

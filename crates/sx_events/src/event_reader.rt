@@ -30,8 +30,8 @@ pub enum Ending {
 /// the numbers of the caller's table of names.
 ///
 /// It keeps the bytes of the line that has begun, the names of the open elements and the namespaces that they declare, the
-/// attribute lines that wait for their start, the run of text that may go on, and at most two events. After an `AllocError`
-/// of `next` it is spent, and answers that error from then on.
+/// attribute lines that wait for their start, or the memory of earlier ones, the run of text that may go on, and at most two
+/// events. After an `AllocError` of `next` it is spent, and answers that error from then on.
 #[derive(Drop)]
 pub struct EventReader {
     limits: Limits,

@@ -18,7 +18,6 @@ use crate::pending::{Pending, Waiting};
 use crate::run::Run;
 use crate::starting::begin;
 use std::alloc::{AllocError, Global};
-use std::mem;
 use sx_chars::split_instruction;
 use sx_esis::LineView;
 use sx_names::Names;
@@ -153,7 +152,7 @@ impl Standing {
         ensures kept { KeepsPlaces names.old names.new }
         ensures distinct { IsDistinct names.old → IsDistinct names.new }
     {
-        let waiting = mem::replace(&mut self.attributes, Attributes::new(self.alloc));
+        let waiting = &mut self.attributes;
         match begin(self.alloc, limits, &mut self.elements, waiting, names, name)? {
             Err(which) => Ok(Some(which)),
             Ok(event) => {

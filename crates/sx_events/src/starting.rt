@@ -1,5 +1,5 @@
 // The start of an element: what it declares, its name and its attributes.
-ghost use Rattle.std.specs.Prelude.{◌≡◌, ◌||◌, ℕ, List, Bool, false, true, is_some, IfOk, IfSome, OnOk};
+ghost use Rattle.std.specs.Prelude.{◌≡◌, ◌≤◌, ◌||◌, ℕ, List, [], Bool, false, true, is_some, length, take, IfOk, IfSome, OnOk};
 ghost use Rattle.sx_names.specs.Numbering.{IsDistinct, KeepsPlaces};
 ghost use Rattle.sx_tree.specs.Named.{Name, IsNumbered, AreNumbered, name_at, attribute_at, attributes_at};
 ghost use Rattle.sx_chars.specs.Names.{prefix_of};
@@ -146,23 +146,30 @@ fn attribute_label(
     }
 }
 
-// The attributes of an element, or `None` where a prefix is not bound.
+// The attributes of an element, whose lines are so many of these, or `None` where a prefix is not bound. The values are
+// taken out of the lines.
 fn attributes(
     alloc: Global,
     scope: &Scope,
     names: &mut Names,
-    lines: Vec<Written>,
+    lines: &mut Vec<Written>,
+    count: usize,
 ) -> Result<Option<Attrs>, AllocError>
-    ensures bound { IfOk result (λ given. is_some given ≡ place.all_bound scope.now lines.items) }
-    ensures names { IfOk result (λ given. IfSome given (λ attrs. AreAttributesOf names.new (place.attributes_in scope.now lines.items) attrs)) }
+    requires { count ≤ length lines.old.items }
+    ensures bound { IfOk result (λ given. is_some given ≡ place.all_bound scope.now (take count lines.old.items)) }
+    ensures names { IfOk result (λ given. IfSome given (λ attrs. AreAttributesOf names.new (place.attributes_in scope.now (take count lines.old.items)) attrs)) }
+    ensures as_many { length lines.new.items ≡ length lines.old.items }
     ensures kept { KeepsPlaces names.old names.new }
     ensures distinct { IsDistinct names.old → IsDistinct names.new }
 {
     let mut attrs = Items::new(alloc);
-    for Written { name, value } in lines {
-        match attribute_label(alloc, scope, names, name.as_str())? {
+    for at in 0..count {
+        match attribute_label(alloc, scope, names, lines[at].name())? {
             None => return Ok(None),
-            Some(label) => attrs.push(Attr { label, value })?,
+            Some(label) => {
+                let value = lines[at].take_value(alloc);
+                attrs.push(Attr { label, value })?;
+            }
         }
     }
     Ok(Some(attrs))
@@ -201,19 +208,17 @@ pub(crate) fn begin(
     alloc: Global,
     limits: &Limits,
     elements: &mut Elements,
-    waiting: Attributes,
+    waiting: &mut Attributes,
     names: &mut Names,
     name: &str,
 ) -> Result<Result<Event, Which>, AllocError>
-    ensures begins { IfOk result (λ done. (p : Place) → IsSmall limits.now → Holds elements.old p.opened → elements.old.scope ≡ p.scope → AreWaiting waiting p.attributes → Begins limits.now p name.now names.new elements.new done) }
+    ensures begins { IfOk result (λ done. (p : Place) → IsSmall limits.now → Holds elements.old p.opened → elements.old.scope ≡ p.scope → AreWaiting waiting.old p.attributes → Begins limits.now p name.now names.new elements.new done) }
+    ensures waits { AreWaiting waiting.new [] }
+    ensures is_loose { waiting.new.is_loose ≡ false }
     ensures kept { KeepsPlaces names.old names.new }
     ensures distinct { IsDistinct names.old → IsDistinct names.new }
 {
-    let Attributes {
-        ordinary,
-        spaces,
-        ..
-    } = waiting;
+    let (count, spaces) = waiting.take(alloc);
     if let Some(which) = spaces_fault(spaces.as_slice()) {
         return Ok(Err(which));
     }
@@ -224,7 +229,7 @@ pub(crate) fn begin(
     let Some(label) = element_label(alloc, elements.scope(), names, name)? else {
         return Ok(Err(Which::UnboundPrefix));
     };
-    let Some(attrs) = attributes(alloc, elements.scope(), names, ordinary)? else {
+    let Some(attrs) = attributes(alloc, elements.scope(), names, &mut waiting.lines, count)? else {
         return Ok(Err(Which::UnboundPrefix));
     };
     if has_double(attrs.as_slice()) {

@@ -1,7 +1,8 @@
-use Rattle.std.proofs.Common.{ℕ, true, false, List, [], ◌∷◌, ap, ap₂, sym, ◌∙◌}
+use Rattle.std.proofs.Common.{ℕ, true, false, List, [], ◌∷◌, take, ap, ap₂, sym, ◌∙◌}
+use Rattle.std.specs.Global.{Vec}
 use Rattle.sx_names.proofs.Places.{KeepsPlaces-trans}
 use Rattle.sx_tree.specs.declared.events.Space.{Space}
-use Rattle.sx_events.specs.Place.{declared_behind}
+use Rattle.sx_events.specs.Place.{Written, declared_behind}
 use Rattle.sx_events.specs.Standing.{Holds}
 use Rattle.sx_events.specs.Starting.{spaces_fault, has_double_number}
 use Rattle.sx_events.proofs.Starts.{start_fault_is, event_is, label_known}
@@ -9,8 +10,12 @@ use Rattle.sx_events.proofs.starting.begin.Goals as goal
 
 pub returns-then-has_double-clause-begins : goal.returns-then-has_double-clause-begins
 returns-then-has_double-clause-begins c = λ p small holds around wait.
-    let entered = c.in_ok-enter.ensures.scope ∙ ap₂ (λ (s : List Space) (outer : List (List (List ℕ × List ℕ))). declared_behind [] s ∷ outer) (c.as_slice-2.ensures ∙ wait.spaces) around in
-    start_fault_is c.args.limits.now p c.args.name.now c.args.waiting wait c.enter.new.self.scope entered c.element_label.new.names c.attributes.new.names c.attributes.ensures.kept
+    let lines = take c.take-count.result.0 c.take-count.new.self.lines.items in
+    let lines_are = ap₂ (λ (n : ℕ) (ls : Vec Written). take n ls.items) c.take-count.ensures.count c.take-count.ensures.lines ∙ wait.ordinary in
+    let declared = c.take-count.result.1 in
+    let declared_are = c.take-count.ensures.spaces ∙ wait.spaces in
+    let entered = c.in_ok-enter.ensures.scope ∙ ap₂ (λ (s : List Space) (outer : List (List (List ℕ × List ℕ))). declared_behind [] s ∷ outer) (c.as_slice-2.ensures ∙ declared_are) around in
+    start_fault_is c.args.limits.now p c.args.name.now lines declared lines_are declared_are c.enter.new.self.scope entered c.element_label.new.names c.attributes.new.names c.attributes.ensures.kept
     c.in-Some-2.label c.in-Some-3.attrs
     (rw c.scope.ensures at (rw c.in-Some-2.is at c.in_ok-label.ensures.name)) (rw c.scope-2.ensures at (rw c.in-Some-3.is at c.in_ok-attrs.ensures.names))
     (ap spaces_fault (sym c.as_slice.ensures) ∙ sym c.spaces_fault.ensures ∙ c.in_default.is)
@@ -27,7 +32,11 @@ returns-in_err-push-clause-kept c = KeepsPlaces-trans _ _ _ c.element_label.ensu
 
 pub returns-clause-begins : goal.returns-clause-begins
 returns-clause-begins c = λ p small holds around wait.
-    let entered = c.in_ok-enter.ensures.scope ∙ ap₂ (λ (s : List Space) (outer : List (List (List ℕ × List ℕ))). declared_behind [] s ∷ outer) (c.as_slice-2.ensures ∙ wait.spaces) around in
+    let lines = take c.take-count.result.0 c.take-count.new.self.lines.items in
+    let lines_are = ap₂ (λ (n : ℕ) (ls : Vec Written). take n ls.items) c.take-count.ensures.count c.take-count.ensures.lines ∙ wait.ordinary in
+    let declared = c.take-count.result.1 in
+    let declared_are = c.take-count.ensures.spaces ∙ wait.spaces in
+    let entered = c.in_ok-enter.ensures.scope ∙ ap₂ (λ (s : List Space) (outer : List (List (List ℕ × List ℕ))). declared_behind [] s ∷ outer) (c.as_slice-2.ensures ∙ declared_are) around in
     let it = rw c.scope.ensures at (rw c.in-Some-2.is at c.in_ok-label.ensures.name) in
     let all = rw c.scope-2.ensures at (rw c.in-Some-3.is at c.in_ok-attrs.ensures.names) in
     let spaces = ap spaces_fault (sym c.as_slice.ensures) ∙ sym c.spaces_fault.ensures ∙ c.in_default.is in
@@ -37,12 +46,12 @@ returns-clause-begins c = λ p small holds around wait.
     let distinct = c.attributes.ensures.distinct (rw c.in-Some-2.is at c.in_ok-label.ensures.unique) in
     let still : Holds c.enter.new.self p.opened = rw (c.enter.ensures.text, c.enter.ensures.starts) holds in
     let kept = c.attributes.ensures.kept in (
-      start_fault_is c.args.limits.now p c.args.name.now c.args.waiting wait c.enter.new.self.scope entered c.element_label.new.names c.attributes.new.names kept
+      start_fault_is c.args.limits.now p c.args.name.now lines declared lines_are declared_are c.enter.new.self.scope entered c.element_label.new.names c.attributes.new.names kept
           c.in-Some-2.label c.in-Some-3.attrs it all spaces room bound all_are distinct false (sym c.if-has_double.false ∙ c.has_double.ensures ∙ ap has_double_number c.as_slice-3.ensures),
-      event_is c.args.limits.now p c.args.name.now c.args.waiting wait c.enter.new.self.scope entered c.element_label.new.names c.attributes.new.names kept
+      event_is c.args.limits.now p c.args.name.now lines declared lines_are declared_are c.enter.new.self.scope entered c.element_label.new.names c.attributes.new.names kept
           c.in-Some-2.label c.in-Some-3.attrs it all spaces room bound all_are distinct,
       (
-        label_known c.args.limits.now p c.args.name.now c.args.waiting wait c.enter.new.self.scope entered c.element_label.new.names c.attributes.new.names kept
+        label_known c.args.limits.now p c.args.name.now lines declared lines_are declared_are c.enter.new.self.scope entered c.element_label.new.names c.attributes.new.names kept
             c.in-Some-2.label c.in-Some-3.attrs it all spaces room bound all_are distinct,
         all.known,
       ),

@@ -1,16 +1,21 @@
-use Rattle.std.proofs.Common.{ℕ, true, List, [], ◌∷◌, ◌++◌, refl, ap₂, ◌∙◌}
+use Rattle.std.proofs.Common.{ℕ, true, List, [], ◌∷◌, ◌++◌, refl, ap, ap₂, ◌∙◌}
+use Rattle.std.proofs.lemmas.Result.{on_ok_weaker}
+use Rattle.sx_events.specs.Place.{Written, written}
+use Rattle.sx_events.specs.Standing.{lines_of}
 use Rattle.sx_events.proofs.Waits.{wait_space, wait_other}
 use Rattle.sx_events.proofs.attributes.Attributes.push.Goals as goal
 
 pub returns-in_ok-push-in-Some-clause-waits : goal.returns-in_ok-push-in-Some-clause-waits
 returns-in_ok-push-in-Some-clause-waits c = λ ws wait.
-    wait_space c.args.self.now _ ws (record { name = c.args.name.now; value = c.args.value.now }) wait c.in-Some.prefix.now c.in-Some.ensures refl
+    wait_space c.args.self.now _ ws (written c.args.name.now c.args.value.now) wait c.in-Some.prefix.now c.in-Some.ensures refl
     (c.in_ok-push-in-Some.ensures.ok
     ∙ ap₂ (λ (p u : List ℕ). c.args.self.now.spaces ++ record { prefix = p; uri = u } ∷ []) c.in_ok-prefix-in-Some.ensures c.in_ok-value.ensures)
 
-pub returns-in_ok-push-in-None-clause-waits : goal.returns-in_ok-push-in-None-clause-waits
-returns-in_ok-push-in-None-clause-waits c = λ ws wait.
-    wait_other c.args.self.now (record { ordinary = c.push-in-None.new.self; spaces = c.args.self.now.spaces; is_loose = true }) ws (record { name = c.args.name.now; value = c.args.value.now }) wait c.in-None.ensures
-    (c.in_ok-push-in-None.ensures.items
-    ∙ ap₂ (λ (n v : List ℕ). c.args.self.now.ordinary.items ++ record { name = n; value = v } ∷ []) c.in_ok-name-in-None.ensures c.in_ok-value.ensures)
-    refl
+pub returns-in-None-clause-waits : goal.returns-in-None-clause-waits
+returns-in-None-clause-waits c =
+    on_ok_weaker c.put.result
+    (λ more ws wait.
+    wait_other c.args.self.now c.put.new.self ws (written c.args.name.now c.args.value.now) wait c.in-None.ensures
+    (more ∙ ap (λ (v : List ℕ). lines_of c.args.self.now ++ written c.args.name.now v ∷ []) c.in_ok-value.ensures)
+    c.put.ensures.spaces)
+    c.put.ensures.lines

@@ -1,19 +1,16 @@
-use Rattle.std.proofs.Common.{◌∙◌, refl, ap, sym, subst}
+use Rattle.std.proofs.Common.{refl}
 use Rattle.sx_esis.specs.Lines.{starts}
 use Rattle.sx_tree.specs.Tree as tree
 use Rattle.sx_events.specs.Course.{behind, begun}
-use Rattle.sx_events.specs.Standing.{AreWaiting}
-use Rattle.sx_events.specs.declared.attributes.Attributes.{Attributes}
 use Rattle.sx_events.proofs.Takings.{knows_flushed, put_waits, put_count}
 use Rattle.sx_events.proofs.standing.Standing.start.Goals as goal
 
 pub returns-in-Ok-clause-takes : goal.returns-in-Ok-clause-takes
 returns-in-Ok-clause-takes c = λ small p knows may line idle.
     let name = c.args.name.now in
-    let begins = (rw c.in-Ok.is at c.in_ok-which.ensures.begins) p small knows.opened knows.scope (subst (λ (a : Attributes). AreWaiting a p.attributes) (sym c.replace-waiting.ensures.value) knows.wait) in
+    let begins = (rw c.in-Ok.is at c.in_ok-which.ensures.begins) p small knows.opened knows.scope knows.wait in
     let flushed = c.put.ensures.flushed in
-    let waits = put_waits c.begin.new.names c.args.self.now _ c.put.new.self c.put.new.pending p knows refl flushed c.in-Ok.event c.args.number (tree.starts (begun p name)) c.put.ensures.event line begins.1 begins.2 in
-    let after = c.replace-waiting.ensures.after in (
+    let waits = put_waits c.begin.new.names c.args.self.now _ c.put.new.self c.put.new.pending p knows refl flushed c.in-Ok.event c.args.number (tree.starts (begun p name)) c.put.ensures.event line begins.1 begins.2 in (
       begins.0,
       record {
         knows = knows_flushed _ c.put.new.self c.put.new.pending.text (behind p (starts name)) flushed (record {
@@ -21,11 +18,8 @@ returns-in-Ok-clause-takes c = λ small p knows may line idle.
           scope = begins.4;
           has_root = refl;
           conformed = knows.conformed;
-          wait = record {
-            ordinary = ap (λ (a : Attributes). a.ordinary.items) after ∙ c.new.ensures.ordinary;
-            spaces = ap (λ (a : Attributes). a.spaces) after ∙ c.new.ensures.spaces;
-          };
-          is_loose = ap (λ (a : Attributes). a.is_loose) after ∙ c.new.ensures.is_loose;
+          wait = c.begin.ensures.waits;
+          is_loose = c.begin.ensures.is_loose;
           strict = λ s. refl;
         }) refl refl;
         events = waits.0;
