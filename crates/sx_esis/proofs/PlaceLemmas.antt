@@ -1,12 +1,16 @@
 -- Where a byte stands first.
 use Rattle.std.proofs.Common.{◌≡◌, ℕ, suc, ◌+◌, ◌<◌, ◌≤◌, Bool, true, false, not, ◌&&◌, List, ◌∷◌, [], ◌∙◌, ap, length, get_or, Option, Some, None, sym, refl, cond, ltb, eqb, arith}
 use Rattle.std.proofs.lemmas.Bool.{and_from, and_parts, false_from_ne_true, lt-ltb}
-use Rattle.std.proofs.lemmas.Str.{is_utf8-from_IsUtf8, IsUtf8-from_is_utf8}
+use Rattle.std.proofs.lemmas.Str.{is_utf8-from_IsUtf8, IsUtf8-from_is_utf8, IsUtf8-from_ascii}
+use Rattle.std.proofs.lemmas.Str.Ascii.{IsAscii-from_all}
+use Rattle.std.proofs.lemmas.List.{get_or_default}
+use Rattle.std.proofs.lemmas.List.Elements.{All-from_get_or}
+use Rattle.std.proofs.lemmas.List.Sums.{list_all-from_AllPass}
 use Rattle.std.specs.Str.{IsUtf8, is_utf8}
 use Rattle.sx_esis.specs.Lines.{is_text}
 use Rattle.std.proofs.lemmas.Bool.Decides.{nat_tests}
 use Rattle.std.proofs.lemmas.List.Sums.{position_or_len_is, prefix_len-le-length}
-use Rattle.std.specs.List.{list_all, position, position_or_len}
+use Rattle.std.specs.List.{All, AllPass, list_all, position, position_or_len}
 use Rattle.std.specs.Option.{unwrap_or}
 use Rattle.memchr.specs.Find.{IsFirstByte, is_byte}
 
@@ -63,3 +67,15 @@ zero_nowhere s n is text past =
 
 pub text_is_utf8 : (s : List ℕ) → is_text s ≡ true → IsUtf8 s
 text_is_utf8 s is = IsUtf8-from_is_utf8 s (and_parts (is_utf8 s) (list_all (λ b. not (eqb b 0)) s) is).0
+
+not_zero : (b : ℕ) → 0 < b → not (eqb b 0) ≡ true
+not_zero b some = grind (arith, nat_tests)
+
+-- bytes of which none is a zero, and all are of ASCII, are text
+pub plain_text : (s : List ℕ) (least most : ℕ) → ((k : ℕ) → k < length s → (least ≤ get_or s k 0) × (get_or s k 0 ≤ most)) → 0 < least → most < 128 → is_text s ≡ true
+plain_text s least most between some few =
+    let ascii : All (λ b. b < 128) s = All-from_get_or (λ b. b < 128) s 0 (λ k within. let here = between k within in omega (arith, here.1, few)) in
+    let none : AllPass (λ b. not (eqb b 0)) s =
+    λ k d within. let here = between k within in not_zero (get_or s k d) (omega (arith, here.0, some, get_or_default s k d 0 within)) in
+    and_from (is_utf8 s) (list_all (λ b. not (eqb b 0)) s) (is_utf8-from_IsUtf8 s (IsUtf8-from_ascii s (IsAscii-from_all s ascii)))
+    (list_all-from_AllPass (λ b. not (eqb b 0)) s none)

@@ -1,5 +1,5 @@
 // The form of a line: the table of commands.
-ghost use Rattle.std.specs.Prelude.{◌≡◌, ℕ, ◌<◌, ◌≤◌, ◌+◌, ◌∷◌, true, false, bytes_eq, codes, length, drop, slice_index, List, Some, Ok, Err, Option, IfOk, IfErr, IfSome, MatchOption, if◌then◌else◌};
+ghost use Rattle.std.specs.Prelude.{◌≡◌, ℕ, ◌<◌, ◌≤◌, ◌+◌, ◌∷◌, true, false, bytes_eq, codes, length, drop, slice_index, List, Some, Ok, Err, Option, IsTrue, IfOk, IfErr, IfSome, MatchOption, if◌then◌else◌};
 ghost use Rattle.std.specs.Str.{IsCharBoundary};
 ghost use Rattle.sx_chars.specs.Names.{before_space, is_ncname};
 ghost use Rattle.sx_esis.specs.Forms as spec;
@@ -8,6 +8,7 @@ ghost use Rattle.sx_esis.specs.Lines as lines;
 
 use crate::faults::LineWhich;
 use crate::places::place_of;
+use crate::reader::text;
 use sx_chars::{is_ncname, is_qname, split_instruction};
 
 /// What a line is, and where its parts lie in it, in bytes from its first one.
@@ -77,11 +78,27 @@ fn is_unsupported(first: u8) -> bool
     matches!(first, b'&' | b'{' | b'}' | b'D' | b'a')
 }
 
+/// Whether each byte is one of ASCII, and none a zero, which makes a line text. Most lines are such, and are told at once.
+fn is_plain(line: &[u8]) -> bool
+    ensures { IsTrue result → lines.is_text line.now ≡ true }
+{
+    let mut least = u8::MAX;
+    let mut bits = 0;
+    for byte in line {
+        least = least.min(*byte);
+        bits |= *byte;
+    }
+    least > 0 && bits < 128
+}
+
 /// A line that is text: UTF-8 without a zero.
 fn text_of(line: &[u8]) -> Result<&str, LineWhich>
     ensures ok { IfOk result (λ s. (s.now ≡ line.now) × (lines.is_text line.now ≡ true)) }
     ensures err { IfErr result (λ w. (w ≡ LineWhich.NotUtf8) × (lines.is_text line.now ≡ false)) }
 {
+    if is_plain(line) {
+        return Ok(text(line));
+    }
     match simdutf8::basic::from_utf8(line) {
         Ok(text) => without_zero(text),
         Err(_) => Err(LineWhich::NotUtf8),

@@ -45,7 +45,8 @@ pub struct LineReader {
     form: Form,
 }
 
-fn text(bytes: &[u8]) -> &str
+/// Bytes that are known to be UTF-8, as a text.
+pub(crate) fn text(bytes: &[u8]) -> &str
     requires { IsUtf8 bytes.now }
     ensures { result.now ≡ bytes.now }
 {
