@@ -1,0 +1,12 @@
+//! The static types of expressions, and what these write into an expression.
+#![tactic(auto)]
+
+mod calls;
+mod forms;
+mod kinds;
+mod parts;
+mod paths;
+mod typing;
+
+pub use sx_kinds::{VarType, VarTypes};
+pub use typing::type_of;
