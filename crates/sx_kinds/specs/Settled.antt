@@ -86,15 +86,23 @@ settled_parts form here (Ok ts) (part ∷ parts) =
     let e = part.in_place place in
     e ∷ settled_parts form here (and_one ts (typing e place.context)) parts
 
+-- the form and the reading of an expression behind `//`, where what is known of it is this or a code
+abbrev pub form_after : ExprForm → Place → Result Typing Code → ExprForm
+form_after form here (Err code) = form
+form_after form here (Ok t) = form_in form here t
+
+abbrev pub deep_after : Deep → Result Typing Code → Deep
+deep_after deep (Err code) = deep
+deep_after deep (Ok t) = deep_in deep t
+
 -- an expression with these parts
 abbrev pub with_parts : {A : Type 0} → Expr-F A → List Expr → Expr
 with_parts e parts = roll-Expr (record { construct = e.construct; deep = e.deep; form = e.form; parts = parts })
 
--- the same with its own fields, where it has a type
+-- the same with its own fields settled, where it has a type
 abbrev pub finished : {A : Type 0} → Expr-F A → Place → List Expr → Result Typing Code → Expr
-finished e here parts (Err code) = with_parts e parts
-finished e here parts (Ok t) =
-    roll-Expr (record { construct = e.construct; deep = deep_in e.deep t; form = form_in e.form here t; parts = parts })
+finished e here parts answer =
+    roll-Expr (record { construct = e.construct; deep = deep_after e.deep answer; form = form_after e.form here answer; parts = parts })
 
 -- one expression whose parts can be settled
 abbrev pub settling : Expr-F Settling → Settling
@@ -106,10 +114,23 @@ settling e = record
       finished e here parts (typing (with_parts e parts) outer.context)
   }
 
+-- each expression as it is, and as it is when it is settled in a place
+unfoldable pub settling_of : Expr → Settling
+settling_of = fold-Expr Settling settling
+
 -- an expression settled in a place; where it has a code, what stands before that is settled, and the rest is as it was
-unfoldable pub settled : Expr → Place → Expr
-settled e = (fold-Expr Settling settling e).in_place
+abbrev pub settled : Expr → Place → Expr
+settled e = (settling_of e).in_place
 
 -- an expression is settled in a place where settling it there changes nothing
 abbrev pub IsSettled : Expr → Place → Type 0
 IsSettled e here = settled e here ≡ e
+
+-- the place of an instruction's expression, by the types of the context item, of the group and of the variables
+abbrev pub place : Ty → Ty → List VarType → Place
+place context group vars = record { context = context; current = context; group = group; vars = vars }
+
+-- whether there is a type, or its code
+abbrev pub without_type : Result Ty Code → Result (Unit {0}) Code
+without_type (Ok t) = Ok tt
+without_type (Err code) = Err code

@@ -26,7 +26,7 @@ pub typing_roll : (e : Expr-F Expr) (outer : Ty) → typing (roll-Expr e) outer 
 unfolding typing
 typing_roll e outer = ap (λ (m : Ty → Result Typing Code). m outer) (fold-roll-Expr (Ty → Result Typing Code) known e)
 
-front : (xs : List Expr) (i : ℕ) (x : Expr) → i < length xs → x ≡ get_or xs i x → drop i xs ≡ x ∷ drop (i + 1) xs
+pub front : (xs : List Expr) (i : ℕ) (x : Expr) → i < length xs → x ≡ get_or xs i x → drop i xs ≡ x ∷ drop (i + 1) xs
 front xs i x h e = rw (add-one i) (drop-cons xs i x h ∙ ap (λ (y : Expr). y ∷ drop (suc i) xs) (sym e))
 
 -- one part more, of which this is known

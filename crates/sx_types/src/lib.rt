@@ -6,7 +6,10 @@ mod forms;
 mod kinds;
 mod parts;
 mod paths;
+mod places;
+mod settling;
 mod typing;
 
+pub use settling::settle;
 pub use sx_kinds::{VarType, VarTypes};
 pub use typing::type_of;

@@ -100,6 +100,16 @@ pub fn is_step(shape: Shape) -> bool
     }
 }
 
+/// Whether a part is a child step without a positional predicate.
+pub fn is_child_step(shape: Shape) -> bool
+    ensures { result ≡ spec.is_child_step shape }
+{
+    match shape {
+        Shape::ChildStep => true,
+        _ => false,
+    }
+}
+
 /// Whether a part is a call of `copy-of` or `snapshot`, or a filter of one.
 pub fn is_copy(shape: Shape) -> bool
     ensures { result ≡ spec.is_copy shape }
