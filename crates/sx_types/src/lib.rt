@@ -7,7 +7,11 @@ mod kinds;
 mod parts;
 mod paths;
 mod places;
+#[cfg(test)]
+mod postfix;
 mod settling;
+#[cfg(test)]
+mod tests;
 mod typing;
 
 pub use settling::settle;
