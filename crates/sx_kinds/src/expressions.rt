@@ -1,7 +1,10 @@
 // The constructs of expressions and patterns.
+ghost use Rattle.std.specs.Prelude.{◌≡◌, IfOk};
+
 use crate::constructs::Construct;
 use crate::types::Ty;
 use sqlite_items::Items;
+use std::alloc::{AllocError, Global};
 use sx_atoms::{Atom, AtomType, CmpOp, SeqFn, TextFn};
 use sx_tree::{Axis, Chars, NodeTest};
 
@@ -122,3 +125,114 @@ pub enum AvtPart {
 
 /// The parts of a value template, in their order.
 pub type AvtParts = Items<AvtPart>;
+
+// A copy of a text, where there is one.
+fn copy_text(alloc: Global, text: &Option<Chars>) -> Result<Option<Chars>, AllocError>
+    ensures { IfOk result (λ t. t ≡ text.now) }
+{
+    match text {
+        None => Ok(None),
+        Some(chars) => Ok(Some(Chars::copy(alloc, chars.as_str())?)),
+    }
+}
+
+// A copy of a node test.
+fn copy_test(alloc: Global, test: &NodeTest) -> Result<NodeTest, AllocError>
+    ensures { IfOk result (λ t. t ≡ test.now) }
+{
+    match test {
+        NodeTest::Name(name) => Ok(NodeTest::Name(*name)),
+        NodeTest::AnyName => Ok(NodeTest::AnyName),
+        NodeTest::InSpace(uri) => Ok(NodeTest::InSpace(Chars::copy(alloc, uri.as_str())?)),
+        NodeTest::Local(local) => Ok(NodeTest::Local(Chars::copy(alloc, local.as_str())?)),
+        NodeTest::Node => Ok(NodeTest::Node),
+        NodeTest::Text => Ok(NodeTest::Text),
+        NodeTest::Comment => Ok(NodeTest::Comment),
+        NodeTest::Document => Ok(NodeTest::Document),
+        NodeTest::Pi(target) => Ok(NodeTest::Pi(copy_text(alloc, target)?)),
+        NodeTest::Element(name) => Ok(NodeTest::Element(*name)),
+        NodeTest::Attribute(name) => Ok(NodeTest::Attribute(*name)),
+    }
+}
+
+impl ExprForm {
+    /// A copy of what an expression is.
+    pub fn copy(alloc: Global, form: &ExprForm) -> Result<ExprForm, AllocError>
+        ensures { IfOk result (λ f. f ≡ form.now) }
+    {
+        match form {
+            ExprForm::Comma => Ok(ExprForm::Comma),
+            ExprForm::For { name } => Ok(ExprForm::For { name: *name }),
+            ExprForm::Let { name } => Ok(ExprForm::Let { name: *name }),
+            ExprForm::Some { name } => Ok(ExprForm::Some { name: *name }),
+            ExprForm::Every { name } => Ok(ExprForm::Every { name: *name }),
+            ExprForm::If => Ok(ExprForm::If),
+            ExprForm::Or => Ok(ExprForm::Or),
+            ExprForm::And => Ok(ExprForm::And),
+            ExprForm::Compare { op, general } => Ok(ExprForm::Compare {
+                op: *op,
+                general: *general,
+            }),
+            ExprForm::Concat => Ok(ExprForm::Concat),
+            ExprForm::Range => Ok(ExprForm::Range),
+            ExprForm::Arith(op) => Ok(ExprForm::Arith(*op)),
+            ExprForm::Unary { minus } => Ok(ExprForm::Unary { minus: *minus }),
+            ExprForm::Union => Ok(ExprForm::Union),
+            ExprForm::Castable { to, optional } => Ok(ExprForm::Castable {
+                to: *to,
+                optional: *optional,
+            }),
+            ExprForm::Cast { to, optional } => Ok(ExprForm::Cast {
+                to: *to,
+                optional: *optional,
+            }),
+            ExprForm::Map => Ok(ExprForm::Map),
+            ExprForm::Path { per_item } => Ok(ExprForm::Path {
+                per_item: *per_item,
+            }),
+            ExprForm::Step { axis, test } => Ok(ExprForm::Step {
+                axis: *axis,
+                test: copy_test(alloc, test)?,
+            }),
+            ExprForm::Filter => Ok(ExprForm::Filter),
+            ExprForm::Literal(atom) => Ok(ExprForm::Literal(Atom::copy(alloc, atom)?)),
+            ExprForm::Var { name, ty } => Ok(ExprForm::Var {
+                name: *name,
+                ty: *ty,
+            }),
+            ExprForm::Empty => Ok(ExprForm::Empty),
+            ExprForm::Dot => Ok(ExprForm::Dot),
+            ExprForm::Root => Ok(ExprForm::Root),
+            ExprForm::Call { function, ty } => Ok(ExprForm::Call {
+                function: *function,
+                ty: *ty,
+            }),
+        }
+    }
+}
+
+impl Expr {
+    /// A copy of an expression.
+    #[cycle(copying_expressions)]
+    pub fn copy(alloc: Global, e: &Expr) -> Result<Expr, AllocError>
+        ensures { IfOk result (λ copy. copy ≡ e.now) }
+    {
+        Ok(Expr {
+            construct: e.construct,
+            deep: e.deep,
+            form: ExprForm::copy(alloc, &e.form)?,
+            parts: copy_exprs(alloc, e.parts.as_slice())?,
+        })
+    }
+}
+
+#[cycle(copying_expressions)]
+fn copy_exprs(alloc: Global, exprs: &[Expr]) -> Result<Exprs, AllocError>
+    ensures { IfOk result (λ copy. copy ≡ exprs.now) }
+{
+    let mut copy = Items::new(alloc);
+    for e in exprs {
+        copy.push(Expr::copy(alloc, e)?)?;
+    }
+    Ok(copy)
+}

@@ -11,4 +11,4 @@ mod types;
 pub use constructs::{Body, Construct, ConstructKind, Instr, InstrForm, NamePattern, copy_body};
 pub use expressions::{ArithOp, AvtPart, AvtParts, Deep, Expr, ExprForm, Exprs, Function, Pattern};
 pub use sheets::{Mode, Modes, OnNoMatch, Sheet, Template, Templates};
-pub use types::{Origin, Ty, TyKind};
+pub use types::{Origin, Parts, Shape, Start, Ty, TyKind, Typing, VarType, VarTypes};

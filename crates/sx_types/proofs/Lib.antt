@@ -1,0 +1,4 @@
+pub mod Bindings
+pub mod Known
+pub mod More
+pub mod Rewriting

@@ -1,0 +1,35 @@
+-- How parts are settled one behind another.
+use Rattle.std.specs.Prelude.{List, Result, Ok, Err}
+use Rattle.sx_atoms.specs.Numbers.{◌>>=◌}
+use Rattle.sx_atoms.specs.declared.error_codes.Code.{Code}
+use Rattle.sx_kinds.specs.Settled.{Place, and_one, inner, settled}
+use Rattle.sx_kinds.specs.Types.{first_of, known_by, parts_of, typing}
+use Rattle.sx_kinds.specs.declared.expressions.Deep.{Deep}
+use Rattle.sx_kinds.specs.declared.expressions.Expr.{Expr}
+use Rattle.sx_kinds.specs.declared.expressions.ExprForm.{ExprForm}
+use Rattle.sx_kinds.specs.declared.types.Parts.{Parts}
+use Rattle.sx_kinds.specs.declared.types.Ty.{Ty}
+use Rattle.sx_kinds.specs.declared.types.Typing.{Typing}
+
+-- what is known of parts together, or the first code of one
+abbrev pub together : Result (List Typing) Code → Result Parts Code
+together before = do
+  ts ← before
+  Ok (parts_of ts)
+
+-- what is known of an expression by its form and its parts, where none has a code
+abbrev pub known_from : ExprForm → Deep → Ty → Result Parts Code → Result Typing Code
+known_from form deep context known = do
+  parts ← known
+  known_by form deep context parts
+
+-- a part behind these: settled, or as it was behind one that has a code
+abbrev pub next_part : ExprForm → Place → Result (List Typing) Code → Expr → Expr
+next_part form here (Err code) part = part
+next_part form here (Ok ts) part = settled part (inner form here (first_of ts))
+
+-- what is known of these and that one
+abbrev pub known_after : ExprForm → Place → Result (List Typing) Code → Expr → Result (List Typing) Code
+known_after form here (Err code) part = Err code
+known_after form here (Ok ts) part =
+    and_one ts (typing (settled part (inner form here (first_of ts))) (inner form here (first_of ts)).context)

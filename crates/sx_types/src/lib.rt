@@ -1,0 +1,19 @@
+//! The static types of expressions, and what these write into an expression.
+#![tactic(auto)]
+
+mod calls;
+mod forms;
+mod kinds;
+mod parts;
+mod paths;
+mod places;
+#[cfg(test)]
+mod postfix;
+mod settling;
+#[cfg(test)]
+mod tests;
+mod typing;
+
+pub use settling::settle;
+pub use sx_kinds::{VarType, VarTypes};
+pub use typing::type_of;

@@ -1,0 +1,206 @@
+// Settling expressions.
+ghost use Rattle.std.specs.Prelude.{◌≡◌, [], Ok, List, Result, IfOk, OnErr, map};
+ghost use Rattle.sx_atoms.specs.declared.error_codes.Code.{Code as AnyCode};
+ghost use Rattle.sx_kinds.specs.Settled as spec;
+ghost use Rattle.sx_kinds.specs.Types.{below, each, focus as focus_of, type_of, typing};
+ghost use Rattle.sx_kinds.specs.declared.expressions.Expr.TheViews.{out-Expr};
+ghost use Rattle.sx_kinds.specs.declared.types.Ty.{Ty as AnyTy};
+ghost use Rattle.sx_kinds.specs.declared.types.Typing.{Typing as AnyTyping};
+ghost use Rattle.sx_types.specs.Places.{place_of};
+ghost use Rattle.sx_types.specs.Settling.{known_after, known_from, next_part, together};
+
+use crate::forms::{focus, known_by};
+use crate::parts::{and_one, none};
+use crate::paths;
+use crate::places::{Place, Scope, bound, deep_in, form_in};
+use sqlite_items::Items;
+use std::alloc::{AllocError, Global};
+use sx_atoms::Code;
+use sx_kinds::{Deep, Expr, ExprForm, Exprs, Parts, Ty, Typing, VarTypes};
+
+// What is known of an expression by its form and what is known of its parts.
+fn answered(
+    form: &ExprForm,
+    deep: Deep,
+    context: &Ty,
+    known: &Result<Parts, Code>,
+) -> Result<Typing, Code>
+    ensures { result ≡ known_from form.now deep context.now known.now }
+{
+    match known {
+        Ok(parts) => known_by(form, deep, context, parts),
+        Err(code) => Err(*code),
+    }
+}
+
+// How an expression behind `//` is read, where this is known of it.
+fn deep_after(deep: Deep, answer: &Result<Typing, Code>) -> Deep
+    ensures { result ≡ spec.deep_after deep answer.now }
+{
+    match answer {
+        Ok(t) => deep_in(deep, t),
+        Err(_) => deep,
+    }
+}
+
+// The form of an expression, where this is known of it.
+fn form_after(
+    alloc: Global,
+    form: &ExprForm,
+    here: &Place<'_>,
+    answer: &Result<Typing, Code>,
+) -> Result<ExprForm, AllocError>
+    ensures { IfOk result (λ f. f ≡ spec.form_after form.now (place_of here.now) answer.now) }
+{
+    match answer {
+        Ok(t) => form_in(alloc, form, here, t),
+        Err(_) => ExprForm::copy(alloc, form),
+    }
+}
+
+// An expression with these parts, and with its own fields where it has a type; and what is known of it.
+fn finished(
+    alloc: Global,
+    e: &Expr,
+    here: &Place<'_>,
+    parts: Exprs,
+    known: Result<Parts, Code>,
+) -> Result<(Expr, Result<Typing, Code>), AllocError>
+    ensures { (before : Result (List AnyTyping) AnyCode) (outer : AnyTy) → known ≡ together before
+        → each (out-Expr e.now).form here.now.context [] (map typing parts) ≡ before → here.now.context ≡ below (out-Expr e.now).deep outer
+        → IfOk result (λ r. (r.0 ≡ spec.finished (out-Expr e.now) (place_of here.now) parts (typing (spec.with_parts (out-Expr e.now) parts) outer))
+        × (r.1 ≡ typing r.0 outer)) }
+{
+    let context = &here.context;
+    let answer = answered(&e.form, e.deep, context, &known);
+    let deep = deep_after(e.deep, &answer);
+    let form = form_after(alloc, &e.form, here, &answer)?;
+    let settled = answered(&form, deep, context, &known);
+    let construct = e.construct;
+    Ok((
+        Expr {
+            construct,
+            deep,
+            form,
+            parts,
+        },
+        settled,
+    ))
+}
+
+// A part settled behind a first one, and what is known of it.
+#[cycle(settling)]
+fn settled_inside(
+    alloc: Global,
+    part: &Expr,
+    form: &ExprForm,
+    here: &Place<'_>,
+    first: Option<Typing>,
+) -> Result<(Expr, Result<Typing, Code>), AllocError>
+    ensures { IfOk result (λ r. (r.0 ≡ spec.settled part.now (spec.inner form.now (place_of here.now) first))
+        × (r.1 ≡ typing r.0 (focus_of form.now here.now.context first))) }
+{
+    let context = focus(form, &here.context, first);
+    match bound(form, first) {
+        Some(var) => {
+            let scope = Scope::Bound(var, here.scope);
+            let place = Place {
+                context,
+                current: here.current,
+                group: here.group,
+                scope: &scope,
+            };
+            settled(alloc, part, &place)
+        }
+        None => {
+            let place = Place {
+                context,
+                current: here.current,
+                group: here.group,
+                scope: here.scope,
+            };
+            settled(alloc, part, &place)
+        }
+    }
+}
+
+// A part behind these, and what is known of these and it.
+#[cycle(settling)]
+fn settled_part(
+    alloc: Global,
+    part: &Expr,
+    form: &ExprForm,
+    here: &Place<'_>,
+    known: &Result<Parts, Code>,
+) -> Result<(Expr, Result<Parts, Code>), AllocError>
+    ensures { (before : Result (List AnyTyping) AnyCode) → known.now ≡ together before
+        → IfOk result (λ r. (r.0 ≡ next_part form.now (place_of here.now) before part.now)
+        × (r.1 ≡ together (known_after form.now (place_of here.now) before part.now))) }
+{
+    match known {
+        Err(code) => Ok((Expr::copy(alloc, part)?, Err(*code))),
+        Ok(before) => {
+            let (settled, answer) = settled_inside(alloc, part, form, here, before.first)?;
+            match answer {
+                Ok(t) => Ok((settled, Ok(and_one(before, &t)))),
+                Err(code) => Ok((settled, Err(code))),
+            }
+        }
+    }
+}
+
+// An expression settled in a place, and what is known of it then.
+#[cycle(settling)]
+fn settled(
+    alloc: Global,
+    e: &Expr,
+    place: &Place<'_>,
+) -> Result<(Expr, Result<Typing, Code>), AllocError>
+    ensures { IfOk result (λ r. (r.0 ≡ spec.settled e.now (place_of place.now)) × (r.1 ≡ typing r.0 place.now.context)) }
+{
+    let here = Place {
+        context: paths::below(e.deep, &place.context),
+        current: place.current,
+        group: place.group,
+        scope: place.scope,
+    };
+    let mut parts = Items::new(alloc);
+    let mut known = Ok(none());
+    for part in e.parts.as_slice() {
+        let (next, after) = settled_part(alloc, part, &e.form, &here, &known)?;
+        parts.push(next)?;
+        known = after;
+    }
+    finished(alloc, e, &here, parts, known)
+}
+
+/// Writes into an expression what the types of what stands around it say: the type of each variable and of each call of
+/// `current` and `current-group`, which paths are evaluated for each item of a front part, and how each `//` is read.
+/// `context` is the type of the instruction's context item, `group` that of the current group, and `vars` has the types of the
+/// variables in scope. The answer is the code that `type_of` then has, if any; the parts before that place are settled then,
+/// and the others are as they were. After an `AllocError` nothing has changed.
+pub fn settle(
+    alloc: Global,
+    e: &mut Expr,
+    context: &Ty,
+    group: &Ty,
+    vars: &VarTypes,
+) -> Result<Result<(), Code>, AllocError>
+    ensures settled { IfOk result (λ answer. e.new ≡ spec.settled e.old (spec.place context.now group.now vars.now)) }
+    ensures answer { IfOk result (λ answer. answer ≡ spec.without_type (type_of e.new context.now)) }
+    ensures unchanged { OnErr result (e.new ≡ e.old) }
+{
+    let scope = Scope::Base(vars.as_slice());
+    let place = Place {
+        context: *context,
+        current: *context,
+        group: *group,
+        scope: &scope,
+    };
+    let (new, answer) = settled(alloc, e, &place)?;
+    *e = new;
+    match answer {
+        Ok(_) => Ok(Ok(())),
+        Err(code) => Ok(Err(code)),
+    }
+}
