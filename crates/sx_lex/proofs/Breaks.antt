@@ -16,9 +16,12 @@ use Rattle.sx_lex.proofs.Unique.{same_tokens}
 -- the front of a text may be cut where the text may be
 cut_in_front : (s : List ℕ) (k m : ℕ) → k ≤ length s → m ≤ k → IsCharBoundary s m → IsCharBoundary (take k s) m
 cut_in_front s k m within most cut =
-    let size = length-take-le k s within in (omega (arith, size), λ less lead.
-    let same = get_or-take k s m 0 (omega (arith, size)) in
-    omega (arith, same, cut.1 (omega (arith, size)) (omega (arith, same))))
+    let size = length-take-le k s within in (
+      omega (arith, size),
+      λ less lead.
+          let same = get_or-take k s m 0 (omega (arith, size)) in
+          omega (arith, same, cut.1 (omega (arith, size)) (omega (arith, same))),
+    )
 
 -- a text may be cut where its front may be, if that front is one of characters
 pub cut_of_front : (s : List ℕ) (k m : ℕ) → IsCharBoundary s k → IsCharBoundary (take k s) m → IsCharBoundary s m

@@ -28,7 +28,7 @@ loop-at-preserved c =
     let line = c.index.result.now in
     let same = c.loop-at.invariant.0 in
     let again = once_more lines c.loop-at.lines.items at c.args.count same c.loop-at-test.true c.requires line c.index.ensures
-        c.index_mut.result.now c.loop-at.invariant.1 c.index_mut.ensures.value in (
+    c.index_mut.result.now c.loop-at.invariant.1 c.index_mut.ensures.value in (
       same_behind lines c.loop-at.lines.items at c.args.count same c.loop-at-test.true c.requires line c.index.ensures c.take_value-value.new.self,
       length-set c.loop-at.lines.items at c.take_value-value.new.self ∙ c.loop-at.invariant.1,
       subst (λ (ls : List Written). Resolved c.args.names.now c.attribute_label.new.names c.args.scope.now ls c.push.new.self)
