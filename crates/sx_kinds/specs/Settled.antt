@@ -1,9 +1,9 @@
 -- Settled expressions: what is written into an expression once the types of what stands around it are known.
-use Rattle.std.specs.Prelude.{◌≡◌, ℕ, if◌then◌else◌, ◌==◌, List, [], ◌∷◌, ◌++◌, map, Option, Some, Result, Ok, Err}
+use Rattle.std.specs.Prelude.{◌≡◌, ℕ, false, if◌then◌else◌, ◌==◌, List, [], ◌∷◌, ◌++◌, map, Option, Some, Result, Ok, Err}
 use Rattle.sx_atoms.specs.Numbers.{◌>>=◌}
 use Rattle.sx_atoms.specs.declared.error_codes.Code.{Code}
 use Rattle.sx_atoms.specs.declared.functions.SeqFn.TheVariants as fn
-use Rattle.sx_kinds.specs.Types.{below, first_of, focus, item_of, is_child_step, is_per_item, many, typing}
+use Rattle.sx_kinds.specs.Types.{below, first_of, focus, item_of, is_child_step, is_deep, is_per_item, many, typing}
 use Rattle.sx_kinds.specs.declared.expressions.Deep.{Deep}
 use Rattle.sx_kinds.specs.declared.expressions.Deep.TheVariants as deeps
 use Rattle.sx_kinds.specs.declared.expressions.Expr.{Expr}
@@ -86,11 +86,12 @@ settled_parts form here (Ok ts) (part ∷ parts) =
     let e = part.in_place place in
     e ∷ settled_parts form here (and_one ts (typing e place.context)) parts
 
--- the form and the reading of an expression behind `//`, where what is known of it is this or a code
+-- the form of an expression, where what is known of it is this or a code
 abbrev pub form_after : ExprForm → Place → Result Typing Code → ExprForm
 form_after form here (Err code) = form
 form_after form here (Ok t) = form_in form here t
 
+-- the reading of one behind `//`
 abbrev pub deep_after : Deep → Result Typing Code → Deep
 deep_after deep (Err code) = deep
 deep_after deep (Ok t) = deep_in deep t
@@ -106,13 +107,13 @@ finished e here parts answer =
 
 -- one expression whose parts can be settled
 abbrev pub settling : Expr-F Settling → Settling
-settling e = record
-  { as_it_is = with_parts e (map (λ (part : Settling). part.as_it_is) e.parts)
-  ; in_place = λ outer.
+settling e = record {
+  as_it_is = with_parts e (map (λ (part : Settling). part.as_it_is) e.parts);
+  in_place = λ outer.
       let here = record outer { context = below e.deep outer.context } in
       let parts = settled_parts e.form here (Ok []) e.parts in
-      finished e here parts (typing (with_parts e parts) outer.context)
-  }
+      finished e here parts (typing (with_parts e parts) outer.context);
+}
 
 -- each expression as it is, and as it is when it is settled in a place
 unfoldable pub settling_of : Expr → Settling
@@ -134,3 +135,24 @@ place context group vars = record { context = context; current = context; group 
 abbrev pub without_type : Result Ty Code → Result (Unit {0}) Code
 without_type (Ok t) = Ok tt
 without_type (Err code) = Err code
+
+-- the type at a call, without that of the current item or of the current group
+abbrev pub bare_type : Function → Ty → Ty
+bare_type (functions.Seq fn.Current) ty = many kinds.Any
+bare_type (functions.Seq fn.CurrentGroup) ty = many kinds.Any
+bare_type _ ty = ty
+
+-- a form without what is written into it
+abbrev pub bare_form : ExprForm → ExprForm
+bare_form (forms.Path per_item) = forms.Path false
+bare_form (forms.Var x ty) = forms.Var x (many kinds.Any)
+bare_form (forms.Call f ty) = forms.Call f (bare_type f ty)
+bare_form form = form
+
+-- a reading of `//` that has not been looked at
+abbrev pub bare_deep : Deep → Deep
+bare_deep deep = if is_deep deep then deeps.Written else deeps.No
+
+-- an expression without what settling writes into it
+unfoldable pub bare : Expr → Expr
+bare = fold-Expr Expr (λ e. roll-Expr (record { construct = e.construct; deep = bare_deep e.deep; form = bare_form e.form; parts = e.parts }))

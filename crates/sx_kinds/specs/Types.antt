@@ -321,16 +321,16 @@ start_of_all start (t ∷ ts) = start_of_all (joined_start start t.start) ts
 
 -- what is known of some parts together
 abbrev pub parts_of : List Typing → Parts
-parts_of ts = record
-  { first = first_of ts
-  ; second = second_of ts
-  ; third = third_of ts
-  ; kind = joined_all kinds.Nothing ts
-  ; origin = comma_origin (origins ts)
-  ; start = start_of_all starts.Nowhere ts
-  ; counts = list_any (λ (t : Typing). t.counts) ts
-  ; positional = list_any is_positional ts
-  }
+parts_of ts = record {
+  first = first_of ts;
+  second = second_of ts;
+  third = third_of ts;
+  kind = joined_all kinds.Nothing ts;
+  origin = comma_origin (origins ts);
+  start = start_of_all starts.Nowhere ts;
+  counts = list_any (λ (t : Typing). t.counts) ts;
+  positional = list_any is_positional ts;
+}
 
 -- ---- types of expressions
 
@@ -351,19 +351,19 @@ choice_origin _ = Source
 
 -- a choice between two branches (3.10)
 abbrev pub choice : Typing → Typing → Ty
-choice a b = record
-  { kind = joined a.ty.kind b.ty.kind
-  ; at_most_one = a.ty.at_most_one && b.ty.at_most_one
-  ; origin = choice_origin (origins (a ∷ b ∷ []))
-  }
+choice a b = record {
+  kind = joined a.ty.kind b.ty.kind;
+  at_most_one = a.ty.at_most_one && b.ty.at_most_one;
+  origin = choice_origin (origins (a ∷ b ∷ []));
+}
 
 -- what a `for` returns for each item (3.9.1)
 abbrev pub returned : Ty → Ty → Ty
-returned over t = record
-  { kind = t.kind
-  ; at_most_one = over.at_most_one && t.at_most_one
-  ; origin = if is_source t.origin then Source else Forest
-  }
+returned over t = record {
+  kind = t.kind;
+  at_most_one = over.at_most_one && t.at_most_one;
+  origin = if is_source t.origin then Source else Forest;
+}
 
 -- the origin of a union: the document, or one copied tree in which both operands start at one item
 abbrev pub union_origin : Bool → List Origin → Result Origin Code
@@ -389,11 +389,11 @@ path_origin left right =
 
 -- what is evaluated for each item of the left side (3.3, 3.14)
 abbrev pub along : Ty → Typing → Ty
-along left right = record
-  { kind = right.ty.kind
-  ; at_most_one = left.at_most_one && right.ty.at_most_one
-  ; origin = path_origin left right
-  }
+along left right = record {
+  kind = right.ty.kind;
+  at_most_one = left.at_most_one && right.ty.at_most_one;
+  origin = path_origin left right;
+}
 
 -- whether a test of attributes gives a full name
 abbrev pub names_one : NodeTest → Bool

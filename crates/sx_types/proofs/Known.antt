@@ -1,9 +1,11 @@
 -- What is known of an expression, by what is known of its parts.
-use Rattle.std.proofs.Common.{◌≡◌, ℕ, suc, ◌+◌, ◌<◌, ◌≤◌, List, [], ◌∷◌, ◌++◌, length, get_or, drop, map, Result, Ok, Err, ap, sym, ◌∙◌, add-one, drop-cons}
+use Rattle.std.proofs.Common.{◌≡◌, Bool, ℕ, suc, ◌+◌, ◌<◌, ◌≤◌, List, [], ◌∷◌, ◌++◌, length, get_or, drop, map, Result, Ok, Err, ap, sym, ◌∙◌, add-one, drop-cons, refl}
 use Rattle.std.proofs.lemmas.List.{drop_all}
 use Rattle.sx_atoms.specs.Numbers.{◌>>=◌}
 use Rattle.sx_atoms.specs.declared.error_codes.Code.{Code}
-use Rattle.sx_kinds.specs.Types.{below, each, first_of, focus, known, known_by, parts_of, typing}
+use Rattle.sx_kinds.specs.Types.{below, counts_by, each, first_of, focus, is_deep, known, known_by, parts_of, shape_by, start_by, type_by, typing}
+use Rattle.sx_kinds.specs.declared.expressions.Deep.{Deep}
+use Rattle.sx_kinds.specs.declared.expressions.Deep.TheVariants as deeps
 use Rattle.sx_kinds.specs.declared.expressions.Expr.{Expr}
 use Rattle.sx_kinds.specs.declared.expressions.Expr.TheOpen.{Expr-F}
 use Rattle.sx_kinds.specs.declared.expressions.Expr.TheViews.{out-Expr, roll-Expr}
@@ -71,3 +73,23 @@ module _ (e : Expr) (outer context : Ty) (items : List Expr) (here : context ≡
   -- the code of an expression with a part that has one
   pub typing_code : (code : Code) → each (out-Expr e).form context [] (map typing items) ≡ Err code → typing e outer ≡ Err code
   typing_code code h = from_parts (Err code) h
+
+below_same : (a b : Deep) (outer : Ty) → is_deep a ≡ is_deep b → below a outer ≡ below b outer
+below_same deeps.No deeps.No outer e = refl
+below_same deeps.No deeps.Written outer e = cc
+below_same deeps.No deeps.Descendant outer e = cc
+below_same deeps.No deeps.Parents outer e = cc
+below_same deeps.Written deeps.No outer e = cc
+below_same deeps.Descendant deeps.No outer e = cc
+below_same deeps.Parents deeps.No outer e = cc
+below_same _ _ outer e = refl
+
+-- how `//` is read does not matter to what is known
+pub same_reading : (e : Expr-F Expr) (a b : Deep) (outer : Ty) → is_deep a ≡ is_deep b →
+    typing (roll-Expr (record e { deep = a })) outer ≡ typing (roll-Expr (record e { deep = b })) outer
+same_reading e a b outer same =
+    typing_roll (record e { deep = a }) outer ∙
+    ap (λ (c : Ty). each e.form c [] (map typing e.parts) >>= (λ (us : List Typing). known_by e.form a c (parts_of us))) (below_same a b outer same) ∙
+    ap (λ (d : Bool). each e.form (below b outer) [] (map typing e.parts) >>= (λ (us : List Typing). type_by e.form (below b outer) (parts_of us) >>=
+    (λ (ty : Ty). Ok (record { ty = ty; shape = shape_by e.form (parts_of us); deep = d; start = start_by e.form (parts_of us); counts = counts_by e.form (parts_of us) })))) same ∙
+    sym (typing_roll (record e { deep = b }) outer)

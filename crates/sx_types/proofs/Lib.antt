@@ -1,3 +1,5 @@
+pub mod Again
+pub mod Bare
 pub mod Bindings
 pub mod Known
 pub mod More

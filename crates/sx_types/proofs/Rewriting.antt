@@ -37,7 +37,7 @@ below_read : (child : Bool) (outer : Ty) → below (if child then deeps.Descenda
 below_read true outer = refl
 below_read false outer = refl
 
-below_in : (deep : Deep) (answer : Result Typing Code) (outer : Ty) → below (deep_after deep answer) outer ≡ below deep outer
+pub below_in : (deep : Deep) (answer : Result Typing Code) (outer : Ty) → below (deep_after deep answer) outer ≡ below deep outer
 below_in deep (Err code) outer = refl
 below_in deeps.No (Ok t) outer = refl
 below_in deeps.Written (Ok t) outer = below_read (is_child_step t.shape) outer
@@ -49,7 +49,7 @@ goes_on : {A B : Type 0} (f g : A → Result B Code) → ((x : A) → f x ≡ g 
 goes_on f g same (Ok x) = same x
 goes_on f g same (Err code) = refl
 
-each_after : (form : ExprForm) (here : Place) (answer : Result Typing Code) (context : Ty) (ts : List Typing) (parts : List Expr) →
+pub each_after : (form : ExprForm) (here : Place) (answer : Result Typing Code) (context : Ty) (ts : List Typing) (parts : List Expr) →
     each (form_after form here answer) context ts (map typing parts) ≡ each form context ts (map typing parts)
 each_after form here answer context ts [] = refl
 each_after form here answer context ts (p ∷ ps) =

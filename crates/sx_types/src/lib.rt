@@ -4,6 +4,7 @@
 mod calls;
 mod forms;
 mod kinds;
+pub mod laws;
 mod parts;
 mod paths;
 mod places;

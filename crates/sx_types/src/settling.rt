@@ -187,6 +187,7 @@ pub fn settle(
     vars: &VarTypes,
 ) -> Result<Result<(), Code>, AllocError>
     ensures settled { IfOk result (λ answer. e.new ≡ spec.settled e.old (spec.place context.now group.now vars.now)) }
+    ensures stays { IfOk result (λ answer. spec.IsSettled e.new (spec.place context.now group.now vars.now)) }
     ensures answer { IfOk result (λ answer. answer ≡ spec.without_type (type_of e.new context.now)) }
     ensures unchanged { OnErr result (e.new ≡ e.old) }
 {

@@ -1,0 +1,25 @@
+// What a caller relies on, said of the definitions.
+ghost use Rattle.std.specs.Prelude.{◌≡◌};
+ghost use Rattle.sx_kinds.specs.Settled.{Place, bare, settled};
+ghost use Rattle.sx_kinds.specs.Types.{is_deep, typing};
+ghost use Rattle.sx_kinds.specs.declared.expressions.Deep.{Deep};
+ghost use Rattle.sx_kinds.specs.declared.expressions.Expr.{Expr};
+ghost use Rattle.sx_kinds.specs.declared.expressions.Expr.TheOpen.{Expr-F};
+ghost use Rattle.sx_kinds.specs.declared.expressions.Expr.TheViews.{roll-Expr};
+ghost use Rattle.sx_kinds.specs.declared.types.Ty.{Ty};
+
+/// What is settled in a place stays as it is when it is settled there again.
+pub fn settled_again()
+    ensures { (e : Expr) (here : Place) → settled (settled e here) here ≡ settled e here }
+{}
+
+/// Settling changes nothing but the fields that it writes.
+pub fn settled_keeps()
+    ensures { (e : Expr) (here : Place) → bare (settled e here) ≡ bare e }
+{}
+
+/// The type of an expression behind `//` does not depend on how that is read.
+pub fn readings()
+    ensures { (e : Expr-F Expr) (a b : Deep) (context : Ty) → is_deep a ≡ is_deep b
+        → typing (roll-Expr (record e { deep = a })) context ≡ typing (roll-Expr (record e { deep = b })) context }
+{}
