@@ -1,0 +1,7 @@
+//! Reads expressions, value templates and patterns of XPath.
+#![tactic(auto)]
+
+mod laws;
+mod lexemes;
+mod nodes;
+mod roles;
