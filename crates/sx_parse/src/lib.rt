@@ -1,7 +1,10 @@
 //! Reads expressions, value templates and patterns of XPath.
 #![tactic(auto)]
 
-mod laws;
+mod faults;
+pub mod laws;
 mod lexemes;
 mod nodes;
 mod roles;
+
+pub use faults::{Numbering, SyntaxFault};
