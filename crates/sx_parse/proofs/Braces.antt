@@ -43,13 +43,14 @@ scanned_none bytes = record { within = omega arith; closed = λ more. refl; clos
 pub scanned_step : (bytes : List ℕ) (size quote : ℕ) → Scanned bytes size quote → size < length bytes → ends quote (slice_index bytes size) ≡ false →
     Scanned bytes (suc size) (quote_behind quote (slice_index bytes size))
 scanned_step bytes size quote h l e = record {
-    within = omega arith;
-    closed = λ more.
-        ap (λ (front : List ℕ). is_closed 0 (front ++ more)) (take-suc bytes size 0 l)
-        ∙ ap (is_closed 0) (append_assoc (take size bytes) (slice_index bytes size ∷ []) more)
-        ∙ h.closed (slice_index bytes size ∷ more)
-        ∙ closed_step quote (slice_index bytes size) more e;
-    closes = h.closes ∙ ap (closes_in quote) (drop-cons bytes size 0 l) ∙ closes_step quote (slice_index bytes size) (drop (suc size) bytes) e }
+  within = omega arith;
+  closed = λ more.
+      ap (λ (front : List ℕ). is_closed 0 (front ++ more)) (take-suc bytes size 0 l)
+      ∙ ap (is_closed 0) (append_assoc (take size bytes) (slice_index bytes size ∷ []) more)
+      ∙ h.closed (slice_index bytes size ∷ more)
+      ∙ closed_step quote (slice_index bytes size) more e;
+  closes = h.closes ∙ ap (closes_in quote) (drop-cons bytes size 0 l) ∙ closes_step quote (slice_index bytes size) (drop (suc size) bytes) e;
+}
 
 -- the `}` that was found
 pub scanned_end : (bytes : List ℕ) (size quote : ℕ) → Scanned bytes size quote → size < length bytes → ends quote (slice_index bytes size) ≡ true → IsClosedFront bytes size

@@ -1,2 +1,4 @@
 pub mod Running
 pub mod Braces
+pub mod Pending
+pub mod Complete

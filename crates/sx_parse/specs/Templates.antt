@@ -1,8 +1,11 @@
 -- Value templates (XSLT 3.0, 5.6.1): fixed text, in which braces stand doubled, and expressions in braces.
-use Rattle.std.specs.Prelude.{◌≡◌, ℕ, ◌<◌, ◌≤◌, ◌⊎◌, Bool, true, false, not, ◌&&◌, ◌||◌, ◌==◌, List, [], ◌∷◌, ◌++◌, length, take, drop, slice_index, if◌then◌else◌}
+use Rattle.std.specs.Prelude.{◌≡◌, ℕ, suc, ◌-◌, ◌<◌, ◌≤◌, ◌⊎◌, Bool, true, false, not, ◌&&◌, ◌||◌, ◌==◌, List, [], ◌∷◌, ◌++◌, length, take, drop, slice_index, if◌then◌else◌}
+use Rattle.std.specs.Str.{IsCharBoundary}
 use Rattle.sx_lex.specs.Tokens.{is_quote}
 use Rattle.sx_atoms.specs.declared.error_codes.Code.TheVariants as code
 use Rattle.sx_parse.specs.declared.faults.SyntaxFault.{SyntaxFault}
+use Rattle.sx_parse.specs.declared.templates.Next.{Next}
+use Rattle.sx_parse.specs.declared.templates.Next.TheVariants as next
 
 -- text of its own, or the text of an expression
 pub data Piece : Type 0 where
@@ -103,3 +106,27 @@ quote_behind quote c = if quote == 0 then (if is_quote c then c else 0) else (if
 -- whether a byte ends the text of an expression, where a literal with this quote is open, or none
 abbrev pub ends : ℕ → ℕ → Bool
 ends quote c = quote == 0 && c == 125
+
+-- fixed text, which is not empty, stands from an offset up to another, and goes on no further
+pub record IsFixedNext (text : List ℕ) (offset : ℕ) (fixed_text : List ℕ) (end : ℕ) : Type 0 where
+  pub begins : offset < end
+  pub front : IsFixedFront fixed_text (drop offset text) (end - offset)
+  pub boundary : IsCharBoundary text end
+
+-- behind a `{` at an offset the text of an expression stands, up to a `}`
+pub record IsInnerNext (text : List ℕ) (offset start end : ℕ) : Type 0 where
+  pub opens : slice_index text offset ≡ 123
+  pub begins : start ≡ suc offset
+  pub order : start ≤ end
+  pub single : begins_with 123 (drop start text) ≡ false
+  pub front : IsClosedFront (drop start text) (end - start)
+  pub starts : IsCharBoundary text start
+  pub ends_at : IsCharBoundary text end
+  pub goes_on : IsCharBoundary text (suc end)
+
+-- what stands next in a template: its end, fixed text, the text of an expression, or a brace that nothing matches
+abbrev pub IsNext : List ℕ → ℕ → Next → Type 0
+IsNext text offset next.End = length text ≤ offset
+IsNext text offset (next.Fixed fixed_text end) = IsFixedNext text offset fixed_text end
+IsNext text offset (next.Inner start end) = IsInnerNext text offset start end
+IsNext text offset (next.Fault fault) = Breaks offset (drop offset text) fault

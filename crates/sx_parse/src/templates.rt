@@ -3,6 +3,22 @@ ghost use Rattle.std.specs.Prelude.{◌≡◌, ◌<◌, ◌≤◌, ◌++◌, fal
 ghost use Rattle.sx_parse.specs.Templates.{closes_in, doubled, IsClosedFront, IsFixedFront, StopsFixed};
 ghost use Rattle.sx_parse.specs.Templates as spec;
 
+use crate::faults::SyntaxFault;
+use sx_tree::Chars;
+
+/// What stands next in a value template, by places in bytes.
+#[derive(Drop)]
+pub(crate) enum Next {
+    /// nothing
+    End,
+    /// fixed text, its braces no longer doubled, and where it ends
+    Fixed(Chars, usize),
+    /// the text of an expression, from behind its `{` up to its `}`
+    Inner(usize, usize),
+    /// a brace that nothing matches
+    Fault(SyntaxFault),
+}
+
 /// Whether a byte is a brace.
 fn is_brace(byte: u8) -> bool
     ensures { result ≡ spec.is_brace byte }
