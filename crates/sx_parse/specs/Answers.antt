@@ -1,5 +1,5 @@
 -- What is answered for a text: the expression of its one derivation, or the fault at the least offset.
-use Rattle.std.specs.Prelude.{◌≡◌, ℕ, suc, ◌+◌, ◌-◌, ◌<◌, ◌≤◌, ◌⊎◌, Bool, true, false, ◌&&◌, nat_lt, nat_eq, List, [], ◌∷◌, length, take, slice_get, Option, Some, None, if◌then◌else◌}
+use Rattle.std.specs.Prelude.{◌≡◌, ℕ, suc, ◌+◌, ◌-◌, ◌<◌, ◌≤◌, ◌⊎◌, Bool, true, false, not, ◌&&◌, nat_lt, nat_eq, List, [], ◌∷◌, length, take, slice_get, Option, Some, None, if◌then◌else◌}
 use Rattle.sx_atoms.specs.declared.error_codes.Code.{Code}
 use Rattle.sx_atoms.specs.declared.error_codes.Code.TheVariants as code
 use Rattle.sx_kinds.specs.declared.expressions.Expr.{Expr}
@@ -48,32 +48,37 @@ abbrev pub start_or : Option Token → ℕ → ℕ
 start_or (Some token) end = token.start
 start_or None end = end
 
-abbrev pub end_of : List ℕ → Option ℕ → ℕ
-end_of text None = length text
-end_of text (Some offset) = offset
-
 -- where the token with this number begins, or where the tokens end
-abbrev pub offset_of : List ℕ → List Token → Option ℕ → ℕ → ℕ
-offset_of text ts stop k = start_or (slice_get ts k) (end_of text stop)
+abbrev pub offset_in : List Token → ℕ → ℕ → ℕ
+offset_in ts end k = start_or (slice_get ts k) end
+
+-- how many predicates are open behind one more token
+abbrev pub open_behind : ℕ → Lexeme → ℕ
+open_behind count (lexeme.Mark mark.OpenBracket) = suc count
+open_behind count (lexeme.Mark mark.CloseBracket) = count - 1
+open_behind count l = count
 
 -- whether a predicate is open behind these tokens, where so many are before them
 abbrev pub is_inside : ℕ → List Lexeme → Bool
 is_inside count [] = nat_lt 0 count
-is_inside count (lexeme.Mark mark.OpenBracket ∷ ls) = is_inside (suc count) ls
-is_inside count (lexeme.Mark mark.CloseBracket ∷ ls) = is_inside (count - 1) ls
-is_inside count (l ∷ ls) = is_inside count ls
-
-abbrev pub breaks_there : List Lexeme → Option ℕ → ℕ → Bool
-breaks_there ls None k = false
-breaks_there ls (Some offset) k = nat_eq k (length ls)
+is_inside count (l ∷ ls) = is_inside (open_behind count l) ls
 
 -- the code of a fault of grammar: that of patterns stands outside their predicates, where a token begins
-abbrev pub grammar_code : Bool → List Lexeme → Option ℕ → ℕ → Code
-grammar_code false ls stop k = code.Xpst0003
-grammar_code true ls stop k =
-    if breaks_there ls stop k then code.Xpst0003
-    else if is_inside 0 (take k ls) then code.Xpst0003
-    else code.Xtse0340
+abbrev pub code_of : Bool → Bool → Bool → Code
+code_of pattern breaks inside = if pattern && not breaks && not inside then code.Xtse0340 else code.Xpst0003
+
+-- the fault of grammar at the token with this number, among the tokens of a text that ends, or breaks where the flag is set, at an offset
+abbrev pub fault_in : Bool → List Token → List Lexeme → Bool → ℕ → ℕ → SyntaxFault
+fault_in pattern ts ls breaks end k =
+    record { code = code_of pattern (breaks && nat_eq k (length ls)) (is_inside 0 (take k ls)); offset = offset_in ts end k }
+
+abbrev pub end_of : List ℕ → Option ℕ → ℕ
+end_of text None = length text
+end_of text (Some offset) = offset
+
+abbrev pub breaks : Option ℕ → Bool
+breaks None = false
+breaks (Some offset) = true
 
 abbrev pub fault_or : Option SyntaxFault → SyntaxFault → SyntaxFault
 fault_or (Some fault) other = fault
@@ -98,7 +103,7 @@ pub record IsUnread (p : Bool) (scope : Bindings) (text : List ℕ) (fault : Syn
   pub tree : Tree
   pub continues : Continues p (take count (lexemes_of text tokens)) tree
   pub first : fault ≡ fault_or (first_fault p scope text tokens (take count (roles 0 tree)) tokens)
-      (record { code = grammar_code p (lexemes_of text tokens) stop count; offset = offset_of text tokens stop count })
+      (fault_in p tokens (lexemes_of text tokens) (breaks stop) (end_of text stop) count)
 
 abbrev pub IsRefused : Bool → Bindings → List ℕ → SyntaxFault → Type 0
 IsRefused p scope text fault = IsUnsound p scope text fault ⊎ IsUnread p scope text fault

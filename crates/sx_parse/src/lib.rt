@@ -6,6 +6,7 @@ pub mod laws;
 mod lexemes;
 mod nodes;
 mod roles;
+mod stops;
 mod templates;
 
 pub use faults::{Numbering, SyntaxFault};
