@@ -1,1 +1,4 @@
 pub mod Running
+pub mod Joining
+pub mod Firm
+pub mod Behind
