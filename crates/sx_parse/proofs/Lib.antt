@@ -2,3 +2,8 @@ pub mod Running
 pub mod Braces
 pub mod Pending
 pub mod Complete
+pub mod Joining
+pub mod Firm
+pub mod Behind
+pub mod Parallel
+pub mod Refusals

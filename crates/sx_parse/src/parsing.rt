@@ -1,11 +1,15 @@
 // Reading a text: what it says, or why it is refused.
 ghost use Rattle.std.specs.Prelude.{◌≡◌, ◌≤◌, length, IfOk, MatchResult};
 ghost use Rattle.sx_parse.specs.Answers.{IsRefused};
-ghost use Rattle.sx_parse.specs.Understanding.{IsUnderstood, stop_of};
+ghost use Rattle.sx_parse.specs.Answers as answers;
+ghost use Rattle.sx_parse.specs.Lexemes.{lexemes_of};
+ghost use Rattle.sx_parse.specs.Lexing.{IsLexed};
+ghost use Rattle.sx_parse.specs.Understanding.{IsUnderstood};
+ghost use Rattle.sx_parse.specs.Understanding as spec;
 
 use crate::checks::first_fault;
 use crate::faults::SyntaxFault;
-use crate::lexing::{Lexed, lexed};
+use crate::lexing::{Lexed, lex};
 use crate::nodes::Node;
 use crate::reader::{Reading, read};
 use crate::roles::Role;
@@ -25,7 +29,7 @@ pub(crate) struct Understood {
 
 /// The number of the token at which no reading goes on, or at which the text breaks, if there is one.
 fn stop_of(lexed: &Lexed, reading: &Reading) -> Option<usize>
-    ensures { result ≡ stop_of reading.now.fault lexed.now.stop (length lexed.now.tokens) }
+    ensures { result ≡ spec.stop_of reading.now.fault lexed.now.stop (length lexed.now.tokens) }
 {
     match (reading.fault, lexed.stop) {
         (Some(count), _) => Some(count as usize),
@@ -34,8 +38,13 @@ fn stop_of(lexed: &Lexed, reading: &Reading) -> Option<usize>
     }
 }
 
-/// The fault of grammar at the token with this number.
-fn fault_in(pattern: bool, text: &str, lexed: &Lexed, count: usize) -> SyntaxFault {
+/// The fault of grammar at the token with this number, or at the break behind them.
+fn fault_in(pattern: bool, text: &str, lexed: &Lexed, count: usize) -> SyntaxFault
+    requires lexed { IsLexed text.now lexed.now.tokens lexed.now.lexemes lexed.now.stop }
+    requires fit { length text.now ≤ 4096 }
+    requires within { count ≤ length lexed.now.lexemes }
+    ensures { result ≡ answers.fault_in pattern lexed.now.tokens (lexemes_of text.now lexed.now.tokens) (answers.breaks lexed.now.stop) (answers.end_of text.now lexed.now.stop) count }
+{
     grammar_fault(
         pattern,
         lexed.tokens.as_slice(),
@@ -47,7 +56,7 @@ fn fault_in(pattern: bool, text: &str, lexed: &Lexed, count: usize) -> SyntaxFau
 }
 
 /// Reads a text of at most 4,096 bytes, as an expression or as a pattern.
-pub(crate) fn understood(
+pub(crate) fn understand(
     alloc: Global,
     pattern: bool,
     scope: &Scope,
@@ -56,7 +65,7 @@ pub(crate) fn understood(
     requires { length text.now ≤ 4096 }
     ensures { IfOk result (λ r. MatchResult r (λ u. IsUnderstood pattern scope.now text.now u.tokens u.nodes u.roles) (IsRefused pattern scope.now text.now)) }
 {
-    let lexed = lexed(alloc, text)?;
+    let lexed = lex(alloc, text)?;
     let reading = read(alloc, pattern, lexed.lexemes.as_slice())?;
     let first = first_fault(
         alloc,
