@@ -2,3 +2,4 @@ pub mod Running
 pub mod Braces
 pub mod Pending
 pub mod Complete
+pub mod Sound
