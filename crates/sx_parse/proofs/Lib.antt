@@ -3,3 +3,4 @@ pub mod Braces
 pub mod Pending
 pub mod Complete
 pub mod Sound
+pub mod Ends
