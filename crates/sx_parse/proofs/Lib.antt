@@ -4,3 +4,4 @@ pub mod Pending
 pub mod Complete
 pub mod Sound
 pub mod Ends
+pub mod Exact
