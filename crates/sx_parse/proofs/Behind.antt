@@ -1,12 +1,11 @@
 -- What was read before any further tokens stands in each derivation that goes on with them.
-use Rattle.std.proofs.Common.{◌≡◌, ℕ, suc, ◌+◌, ◌≤◌, Bool, false, List, [], ◌∷◌, ◌++◌, length, take, Option, Some, None, Ok, refl, ap, sym, ◌∙◌, append-nil, arith}
+use Rattle.std.proofs.Common.{◌≡◌, ℕ, suc, ◌+◌, Bool, false, List, [], ◌∷◌, ◌++◌, length, take, Option, Some, None, Ok, refl, ap, sym, ◌∙◌, append-nil, arith}
 use Rattle.std.proofs.Math.Seq.{take-append_seam}
-use Rattle.std.proofs.lemmas.List.{length-take-le}
 use Rattle.sx_parse.specs.declared.lexemes.Lexeme.{Lexeme}
 use Rattle.sx_parse.specs.declared.roles.Role.{Role}
-use Rattle.sx_parse.specs.Grammar.{Tree, Fits, tokens, Derives}
+use Rattle.sx_parse.specs.Grammar.{Tree, Derives}
 use Rattle.sx_parse.specs.Machine.{State, named, start, read, ended, answer, and_then, run}
-use Rattle.sx_parse.specs.Reading.{turns, IsQuiet, Continues}
+use Rattle.sx_parse.specs.Reading.{turns, IsQuiet}
 use Rattle.sx_parse.specs.Nodes.{nodes}
 use Rattle.sx_parse.specs.Roles.{roles}
 use Rattle.sx_parse.specs.Standing.{state_roles, state_nodes}
@@ -75,36 +74,9 @@ counted s (l ∷ ts) u e = count_step (read s l) ts u (length (state_roles s)) (
 pub behind_counts : (p : Bool) (ts : List Lexeme) (s : State) → Behind p ts s → length (state_roles s) ≡ length ts
 behind_counts p ts s e = omega (arith, counted (start p) ts s e)
 
-front_taken : (n : ℕ) (front all : List Role) → n ≡ length front → Leads front all → front ≡ take n all
+pub front_taken : (n : ℕ) (front all : List Role) → n ≡ length front → Leads front all → front ≡ take n all
 front_taken n front all h x =
     sym (take-append_seam front x.rest) ∙ ap (λ (k : ℕ). take k (front ++ x.rest)) (sym h) ∙ ap (take n) (sym x.all_are)
-
--- the tokens that were read begin each derivation that a quiet token, or none, follows them in, and their roles are those in it
-pub record Stands (p : Bool) (ts : List Lexeme) (s : State) (t : Tree) : Type 0 where
-  pub continues : Continues p ts t
-  pub roles_are : state_roles s ≡ take (length ts) (roles 0 t)
-
-pub stands : (p : Bool) (ts : List Lexeme) (s : State) → ((us : List Lexeme) (t : Tree) → accept (start p) us ≡ Some t → Derives p us t) → Behind p ts s →
-    (rest : List Lexeme) (t : Tree) → accept s rest ≡ Some t → IsQuiet rest → Stands p ts s t
-stands p ts s sound b rest t e q =
-    let d = sound (ts ++ rest) t (goes_on (start p) ts rest s b ∙ e) in
-    record {
-      continues = record { rest = rest; fits = d.fits; tokens_are = d.tokens_are; quiet = q };
-      roles_are = front_taken (length ts) (state_roles s) (roles 0 t) (sym (behind_counts p ts s b)) (kept s rest t e q);
-    }
-
--- the same before the token with a number
-pub record StandsBefore (p : Bool) (ts : List Lexeme) (k : ℕ) (s : State) (t : Tree) : Type 0 where
-  pub continues : Continues p (take k ts) t
-  pub roles_are : state_roles s ≡ take k (roles 0 t)
-
-pub stands_before : (p : Bool) (ts : List Lexeme) (k : ℕ) (s : State) → k ≤ length ts →
-    ((us : List Lexeme) (t : Tree) → accept (start p) us ≡ Some t → Derives p us t) → Behind p (take k ts) s →
-    (rest : List Lexeme) (t : Tree) → accept s rest ≡ Some t → IsQuiet rest → StandsBefore p ts k s t
-stands_before p ts k s within sound b rest t e q =
-    let x = stands p (take k ts) s sound b rest t e q in
-    let count : length (take k ts) ≡ k = length-take-le k ts within in
-    record { continues = x.continues; roles_are = x.roles_are ∙ ap (λ (n : ℕ). take n (roles 0 t)) count }
 
 -- where all was read, the derivation, its roles and its list
 pub record Wholly (p : Bool) (ts : List Lexeme) (s : State) (t : Tree) : Type 0 where
@@ -121,13 +93,6 @@ stands_whole p ts s sound b t e =
       roles_are = sym (ended_roles s t e);
       nodes_are = sym (ended_nodes s t e);
     }
-
--- the roles are the same in each derivation that goes on so
-pub roles_in_any : (p : Bool) (ts : List Lexeme) (s : State) → ((t : Tree) → Fits p 0 t → accept (start p) (tokens t) ≡ Some t) → Behind p ts s →
-    (t : Tree) → Continues p ts t → state_roles s ≡ take (length ts) (roles 0 t)
-roles_in_any p ts s complete b t c =
-    let reads : accept s c.rest ≡ Some t = sym (goes_on (start p) ts c.rest s b) ∙ ap (accept (start p)) (sym c.tokens_are) ∙ complete t c.fits in
-    front_taken (length ts) (state_roles s) (roles 0 t) (sym (behind_counts p ts s b)) (kept s c.rest t reads c.quiet)
 
 -- ---- reading with a count
 

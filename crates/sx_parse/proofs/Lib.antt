@@ -5,5 +5,9 @@ pub mod Complete
 pub mod Joining
 pub mod Firm
 pub mod Behind
+pub mod Sound
+pub mod Ends
+pub mod Exact
 pub mod Parallel
 pub mod Refusals
+pub mod Final

@@ -49,7 +49,9 @@ mutual
   parallel (prefixed o e) n = ap suc (parallel e n)
   parallel (binary a l o b) n = joined _ _ _ _ (parallel a n) (ap suc (parallel b n))
   parallel (cast e k p q w r optional) n = joined _ _ _ _ (parallel e n) (ap (λ (k : ℕ). suc (suc (suc k))) (of_question optional))
-  parallel (choice p c q t r e) n = ?
+  parallel (choice p c q t r e) n =
+      ap (λ (k : ℕ). suc (suc k))
+      (joined _ _ _ _ (joined _ _ _ _ (parallel c (suc (suc n))) (ap (λ (k : ℕ). suc (suc k)) (parallel t (suc n)))) (ap suc (parallel e (suc n))))
   parallel (bind bs l e) n = joined _ _ _ _ (parallel_bindings bs n) (ap suc (parallel e (suc n)))
 
   parallel_bindings : (bs : Bindings) (n : ℕ) → length (binding_roles n bs) ≡ length (binding_tokens bs)

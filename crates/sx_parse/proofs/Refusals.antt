@@ -1,5 +1,6 @@
 -- What was read and what fails, put together.
-use Rattle.std.proofs.Common.{◌≡◌, ℕ, suc, ◌+◌, ◌<◌, ◌≤◌, ◌⊎◌, Bool, true, false, List, [], ◌∷◌, ◌++◌, length, take, Option, Some, None, inl, inr, refl, ap, sym, ◌∙◌, append-nil, arith}
+use Rattle.std.proofs.Common.{◌≡◌, ℕ, suc, ◌+◌, ◌<◌, ◌≤◌, ◌⊎◌, Bool, true, false, nat_lt, List, [], ◌∷◌, ◌++◌, length, take, Option, Some, None, inl, inr, refl, ap, sym, ◌∙◌, append-nil, arith}
+use Rattle.std.proofs.lemmas.Bool.Decides.{nat_tests}
 use Rattle.std.proofs.lemmas.List.{take_all}
 use Rattle.sx_lex.specs.declared.kinds.Token.{Token}
 use Rattle.sx_lex.specs.Laws.{AreSpans}
@@ -20,7 +21,7 @@ use Rattle.sx_parse.proofs.Parallel.{parallel}
 -- ---- how many tokens there are
 
 pub few : (text : List ℕ) (ts : List Token) (place : ℕ) → AreSpans text place ts → length ts + place ≤ length text
-few text [] place h = h.0
+few text [] place h = omega (arith, h.0)
 few text (t ∷ ts) place h = let e = few text ts t.end h.4 in omega (arith, e, h.0, h.1)
 
 as_many : (text : List ℕ) (ts : List Token) (place : ℕ) → length (lexemes_from place text ts) ≡ length ts
@@ -36,16 +37,19 @@ few_lexemes text ts ls stop h = let e = few text ts 0 h.spans in omega (arith, e
 -- ---- refusals
 
 -- the fault of a text whose reading stops at a token
-pub stopped_fault : Bool → List ℕ → List Token → Option ℕ → ℕ → SyntaxFault
+abbrev pub stopped_fault : Bool → List ℕ → List Token → Option ℕ → ℕ → SyntaxFault
 stopped_fault p text ts stop k = fault_in p ts (lexemes_of text ts) (breaks stop) (end_of text stop) k
+
+before_or_at : (b : Bool) (p : Bool) (ls : List Lexeme) (k : ℕ) → nat_lt k (length ls) ≡ b → IsFault p ls k → (IsFault p ls k × (k < length ls)) ⊎ (k ≡ length ls)
+before_or_at true p ls k e f = inl (f, grind (arith, nat_tests))
+before_or_at false p ls k e f =
+    let w = f.within in
+    let g : length ls ≤ k = grind (arith, nat_tests) in
+    inr (omega (arith, w, g))
 
 stops_before : (p : Bool) (ls : List Lexeme) (stop : Option ℕ) (k : ℕ) → IsFault p ls k → StopsAt p ls stop k
 stops_before p ls None k f = f
-stops_before p ls (Some offset) k f = last (nat_lt k (length ls)) refl
-  where
-    last : (b : Bool) → nat_lt k (length ls) ≡ b → (IsFault p ls k × (k < length ls)) ⊎ (k ≡ length ls)
-    last true e = inl (f, grind (arith, nat_tests))
-    last false e = inr (let w = f.within in let g : ¬ (k < length ls) = grind (arith, nat_tests) in omega (arith, w, g))
+stops_before p ls (Some offset) k f = before_or_at (nat_lt k (length ls)) p ls k refl f
 
 -- no reading goes on at a token
 pub unread : (p : Bool) (scope : Bindings) (text : List ℕ) (ts : List Token) (ls : List Lexeme) (stop : Option ℕ) (k : ℕ) (said : List Role) (fault : SyntaxFault) →
@@ -79,7 +83,7 @@ broken p scope text ts ls offset given said fault h r e =
         rest = [];
         fits = r.derives.fits;
         tokens_are = r.derives.tokens_are ∙ sym (append-nil _ ∙ take_all (length ts) ls (omega (arith, same)));
-        quiet = tt;
+        quiet = λ _. tt;
       });
       first = e ∙ ap (λ (rs : List Role). fault_or (first_fault p scope text ts rs ts) (stopped_fault p text ts (Some offset) (length ts)))
           (r.roles_are ∙ sym (take_all (length ts) (roles 0 r.tree) (omega (arith, many))));
