@@ -2,9 +2,11 @@
 #![tactic(auto)]
 
 mod faults;
+mod forms;
 pub mod laws;
 mod lexemes;
 mod nodes;
+mod numbering;
 mod roles;
 
 pub use faults::{Numbering, SyntaxFault};
