@@ -11,3 +11,4 @@ pub mod Exact
 pub mod Parallel
 pub mod Refusals
 pub mod Final
+pub mod Building

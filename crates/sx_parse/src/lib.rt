@@ -3,12 +3,14 @@
 
 mod checks;
 mod faults;
+mod forms;
 pub mod laws;
 mod lexemes;
 mod lexing;
 mod nodes;
 mod parsing;
 mod reader;
+mod numbering;
 mod roles;
 mod stops;
 mod templates;
