@@ -6,6 +6,7 @@ pub mod laws;
 mod lexemes;
 mod nodes;
 mod roles;
+pub mod template_laws;
 mod templates;
 
 pub use faults::{Numbering, SyntaxFault};
