@@ -1,10 +1,12 @@
 -- The `}` that ends the text of an expression.
-use Rattle.std.proofs.Common.{◌≡◌, ℕ, suc, ◌+◌, ◌<◌, ◌≤◌, Bool, true, false, not, ◌&&◌, ◌||◌, ◌==◌, cond, List, [], ◌∷◌, ◌++◌, length, take, drop, slice_index, refl, ap, sym, ◌∙◌, append_assoc, append-nil, arith}
+use Rattle.std.proofs.Common.{◌≡◌, ℕ, suc, ◌+◌, ◌-◌, ◌<◌, ◌≤◌, Bool, true, false, not, ◌&&◌, ◌||◌, ◌==◌, cond, List, [], ◌∷◌, ◌++◌, length, take, drop, get_or, slice_index, refl, ap, subst, sym, ◌∙◌, append_assoc, append-nil, length-drop, get_or-drop, arith}
 use Rattle.std.proofs.lemmas.List.{drop_all}
 use Rattle.std.proofs.lemmas.Bool.Decides.{nat_tests}
 use Rattle.std.proofs.Math.Seq.{take-suc, drop-cons}
+use Rattle.std.proofs.lemmas.Str.{IsCharBoundary-before_ascii, IsCharBoundary-after_ascii}
+use Rattle.std.specs.Str.{IsCharBoundary, IsUtf8}
 use Rattle.sx_lex.specs.Tokens.{is_quote}
-use Rattle.sx_parse.specs.Templates.{is_closed, closes_in, quote_behind, ends, IsClosedFront}
+use Rattle.sx_parse.specs.Templates.{begins_with, is_closed, closes_in, quote_behind, ends, IsClosedFront, IsInnerNext}
 
 closed_cases : (none quoted same ends : Bool) (q c : ℕ) (cs : List ℕ) → none && ends ≡ false →
     cond none (cond quoted (is_closed c cs) (not ends && is_closed 0 cs)) (cond same (is_closed 0 cs) (is_closed q cs))
@@ -62,3 +64,21 @@ scanned_end bytes size quote h l e =
 -- there is none
 pub scanned_all : (bytes : List ℕ) (size quote : ℕ) → Scanned bytes size quote → length bytes ≤ size → closes_in 0 bytes ≡ false
 scanned_all bytes size quote h l = h.closes ∙ ap (closes_in quote) (drop_all size bytes l)
+
+-- the text of an expression, which the first `}` outside of literals ends
+pub inner_next : (text : List ℕ) (offset size : ℕ) → IsUtf8 text → get_or text offset 0 ≡ 123 → begins_with 123 (drop (offset + 1) text) ≡ false →
+    IsClosedFront (drop (offset + 1) text) size → IsInnerNext text offset (offset + 1) (offset + 1 + size)
+inner_next text offset size utf8 opens single front =
+    let start = offset + 1 in
+    let within : start + size < length text = omega (arith, front.within, length-drop start text) in
+    let mark : get_or text (start + size) 0 ≡ 125 = sym (get_or-drop start text size 0) ∙ front.mark in
+    let back : size ≡ start + size - start = omega arith in record {
+      opens = opens;
+      begins = omega arith;
+      order = omega arith;
+      single = single;
+      front = subst (λ (n : ℕ). IsClosedFront (drop start text) n) back front;
+      starts = IsCharBoundary-after_ascii text offset utf8 (omega arith) (omega arith);
+      ends_at = IsCharBoundary-before_ascii text (start + size) within (omega arith);
+      goes_on = subst (λ (n : ℕ). IsCharBoundary text n) (omega arith) (IsCharBoundary-after_ascii text (start + size) utf8 within (omega arith));
+    }

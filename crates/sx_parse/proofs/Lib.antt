@@ -1,5 +1,8 @@
 pub mod Running
 pub mod Braces
+pub mod FixedText
+pub mod Pieces
+pub mod OneTemplate
 pub mod Pending
 pub mod Complete
 pub mod Joining

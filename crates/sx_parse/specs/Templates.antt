@@ -82,6 +82,12 @@ Ends rest = rest ≡ []
 abbrev pub Breaks : ℕ → List ℕ → SyntaxFault → Type 0
 Breaks offset rest fault = (IsUnclosed rest × (fault ≡ unclosed_at offset)) ⊎ (IsUnopened rest × (fault ≡ unopened_at offset))
 
+-- a text is cut into these pieces, up to its end or to a brace that nothing matches
+pub record IsCut (text : List ℕ) (pieces : List Piece) (rest : List ℕ) : Type 0 where
+  pub written : text ≡ all_written pieces ++ rest
+  pub cut : ArePieces false pieces
+  pub stops : Ends rest ⊎ (IsUnclosed rest ⊎ IsUnopened rest)
+
 -- fixed text goes on no further here: nothing is left, or a brace that is not doubled
 abbrev pub StopsFixed : List ℕ → Type 0
 StopsFixed [] = Unit {0}

@@ -13,6 +13,7 @@ mod reader;
 mod numbering;
 mod roles;
 mod stops;
+pub mod template_laws;
 mod templates;
 
 pub use faults::{Numbering, SyntaxFault};
