@@ -6,5 +6,6 @@ pub mod laws;
 mod lexemes;
 mod nodes;
 mod roles;
+mod words;
 
 pub use faults::{Numbering, SyntaxFault};
