@@ -4,6 +4,7 @@
 mod faults;
 pub mod laws;
 mod lexemes;
+mod lexing;
 mod nodes;
 mod roles;
 mod words;
