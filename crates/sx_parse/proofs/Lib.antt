@@ -1,2 +1,4 @@
 pub mod Tables
+pub mod Parts
+pub mod Quotes
 pub mod Running

@@ -7,6 +7,7 @@ use Rattle.std.specs.Prelude.{is_some}
 use Rattle.std.specs.List.{list_any}
 use Rattle.sx_chars.specs.Names.{behind}
 use Rattle.sx_parse.specs.Lexemes.{found, words, marks, word_with, word_of}
+use Rattle.sx_parse.specs.Checks.{fn_uri, xs_uri, functions, constructors, function_named}
 use Rattle.sx_parse.specs.declared.lexemes.Word.{Word}
 use Rattle.sx_parse.specs.declared.lexemes.Word.TheVariants as word
 
@@ -51,3 +52,12 @@ word_prefixed text some = by (behind 58 text) (behind_some 58 text some)
 
 pub word_plain : (text : List ℕ) (w : Word) → list_any (λ y. eqb y 58) text ≡ false → w ≡ found words text word.Other → w ≡ word_of text
 word_plain text w none is = is ∙ ap (word_with text) (sym (behind_none 58 text none))
+
+-- the functions of the namespace of functions, and those of the namespace of types
+pub function_fn : (uri local : List ℕ) → bytes_eq uri fn_uri ≡ true → function_named uri local ≡ found functions local None
+function_fn uri local same = ap (λ (v : Bool). cond v (found functions local None) (cond (bytes_eq uri xs_uri) (found constructors local None) None)) same
+
+pub function_xs : (uri local : List ℕ) → bytes_eq uri fn_uri ≡ false → bytes_eq uri xs_uri ≡ true → function_named uri local ≡ found constructors local None
+function_xs uri local other same =
+    ap (λ (v : Bool). cond v (found functions local None) (cond (bytes_eq uri xs_uri) (found constructors local None) None)) other
+    ∙ ap (λ (v : Bool). cond v (found constructors local None) None) same

@@ -19,7 +19,7 @@ pub(crate) struct Lexed {
 }
 
 /// The tokens of a text of fewer than 2^32 bytes (XPath 3.1, A.2).
-pub(crate) fn lexed(alloc: Global, text: &str) -> Result<Lexed, AllocError>
+pub(crate) fn lex(alloc: Global, text: &str) -> Result<Lexed, AllocError>
     requires { length text.now < 2 ^ 32 }
     ensures { IfOk result (λ l. IsLexed text.now l.tokens l.lexemes l.stop) }
 {

@@ -1,7 +1,9 @@
 //! Reads expressions, value templates and patterns of XPath.
 #![tactic(auto)]
 
+mod checks;
 mod faults;
+mod functions;
 pub mod laws;
 mod lexemes;
 mod lexing;
