@@ -4,6 +4,7 @@
 mod checks;
 mod faults;
 mod forms;
+mod functions;
 pub mod laws;
 mod lexemes;
 mod lexing;
@@ -15,5 +16,6 @@ mod roles;
 mod stops;
 pub mod template_laws;
 mod templates;
+mod words;
 
 pub use faults::{Numbering, SyntaxFault};
