@@ -3,12 +3,11 @@ use Rattle.std.proofs.Common.{◌≡◌, ℕ, suc, ◌+◌, ◌<◌, ◌≤◌, 
 use Rattle.std.proofs.lemmas.Bool.Decides.{nat_tests}
 use Rattle.std.proofs.lemmas.List.{take_all}
 use Rattle.sx_lex.specs.declared.kinds.Token.{Token}
-use Rattle.sx_lex.specs.Laws.{AreSpans}
 use Rattle.sx_parse.specs.declared.faults.SyntaxFault.{SyntaxFault}
 use Rattle.sx_parse.specs.declared.lexemes.Lexeme.{Lexeme}
 use Rattle.sx_parse.specs.declared.nodes.Node.{Node}
 use Rattle.sx_parse.specs.declared.roles.Role.{Role}
-use Rattle.sx_parse.specs.Answers.{LexesTo, IsRead, IsRefused, IsUnsound, IsUnread, StopsAt, fault_in, fault_or, breaks, end_of}
+use Rattle.sx_parse.specs.Answers.{IsRead, IsRefused, IsUnsound, IsUnread, StopsAt, fault_in, fault_or, breaks, end_of}
 use Rattle.sx_parse.specs.Checks.{Bindings, first_fault}
 use Rattle.sx_parse.specs.Grammar.{Tree, tokens, Derives, IsFault}
 use Rattle.sx_parse.specs.Lexemes.{lexemes_of, lexemes_from}
@@ -20,10 +19,6 @@ use Rattle.sx_parse.proofs.Parallel.{parallel}
 
 -- ---- how many tokens there are
 
-pub few : (text : List ℕ) (ts : List Token) (place : ℕ) → AreSpans text place ts → length ts + place ≤ length text
-few text [] place h = omega (arith, h.0)
-few text (t ∷ ts) place h = let e = few text ts t.end h.4 in omega (arith, e, h.0, h.1)
-
 as_many : (text : List ℕ) (ts : List Token) (place : ℕ) → length (lexemes_from place text ts) ≡ length ts
 as_many text [] place = refl
 as_many text (t ∷ ts) place = ap suc (as_many text ts (suc place))
@@ -32,7 +27,7 @@ pub counted : (text : List ℕ) (ts : List Token) (ls : List Lexeme) (stop : Opt
 counted text ts ls stop h = ap (λ (xs : List Lexeme). length xs) h.lexemes ∙ as_many text ts 0
 
 pub few_lexemes : (text : List ℕ) (ts : List Token) (ls : List Lexeme) (stop : Option ℕ) → IsLexed text ts ls stop → length ls ≤ length text
-few_lexemes text ts ls stop h = let e = few text ts 0 h.spans in omega (arith, e, counted text ts ls stop h)
+few_lexemes text ts ls stop h = let few = h.few in omega (arith, few, counted text ts ls stop h)
 
 -- ---- refusals
 
@@ -57,7 +52,7 @@ pub unread : (p : Bool) (scope : Bindings) (text : List ℕ) (ts : List Token) (
 unread p scope text ts ls stop k said fault h r e = record {
   tokens = ts;
   stop = stop;
-  lexes = h.lexes;
+  lexes = h.read;
   count = k;
   stops = rw (sym h.lexemes) (stops_before p ls stop k r.fault);
   tree = r.tree;
@@ -75,7 +70,7 @@ broken p scope text ts ls offset given said fault h r e =
     record {
       tokens = ts;
       stop = Some offset;
-      lexes = h.lexes;
+      lexes = h.read;
       count = length ts;
       stops = inr (rw (sym h.lexemes) (sym same));
       tree = r.tree;
@@ -94,7 +89,7 @@ pub unsound : (p : Bool) (scope : Bindings) (text : List ℕ) (ts : List Token) 
 unsound p scope text ts ls given said fault h r e = record {
   tokens = ts;
   tree = r.tree;
-  lexes = h.lexes;
+  lexes = h.read;
   derives = rw (sym h.lexemes) r.derives;
   first = ap (λ (rs : List Role). first_fault p scope text ts rs ts) (sym r.roles_are) ∙ e;
 }
@@ -104,14 +99,13 @@ pub sound_text : (p : Bool) (scope : Bindings) (text : List ℕ) (ts : List Toke
 sound_text p scope text ts ls given said h r e = record {
   tree = r.tree;
   is = record {
-    lexes = h.lexes;
+    lexes = h.read;
     derives = rw (sym h.lexemes) r.derives;
     sound = ap (λ (rs : List Role). first_fault p scope text ts rs ts) (sym r.roles_are) ∙ e;
   };
   nodes_are = r.nodes_are;
   roles_are = r.roles_are;
-  spans = h.spans;
-  cuts = h.cuts;
+  parts = h.parts;
 }
 
 -- ---- by cases

@@ -4,7 +4,7 @@ use Rattle.sx_atoms.specs.declared.error_codes.Code.{Code}
 use Rattle.sx_atoms.specs.declared.error_codes.Code.TheVariants as code
 use Rattle.sx_kinds.specs.declared.expressions.Expr.{Expr}
 use Rattle.sx_lex.specs.declared.kinds.Token.{Token}
-use Rattle.sx_lex.specs.Tokens.{AreTokens, BreaksBehind}
+use Rattle.sx_lex.specs.Tokens.{AreTokens}
 use Rattle.sx_parse.specs.declared.faults.SyntaxFault.{SyntaxFault}
 use Rattle.sx_parse.specs.declared.lexemes.Lexeme.{Lexeme}
 use Rattle.sx_parse.specs.declared.lexemes.Lexeme.TheVariants as lexeme
@@ -12,15 +12,11 @@ use Rattle.sx_parse.specs.declared.lexemes.Mark.TheVariants as mark
 use Rattle.sx_parse.specs.Checks.{Bindings, most_bytes, first_fault}
 use Rattle.sx_parse.specs.Grammar.{Tree, Derives, Begins, IsFault}
 use Rattle.sx_parse.specs.Lexemes.{lexemes_of}
+use Rattle.sx_parse.specs.Lexing.{AreRead}
 use Rattle.sx_parse.specs.Numbers.{Name, names_among, numbers_among, with_names}
 use Rattle.sx_parse.specs.Reading.{Continues}
 use Rattle.sx_parse.specs.Roles.{roles}
 use Rattle.sx_parse.specs.Says.{Meaning}
-
--- the tokens of a text, up to its end, or up to an offset at which no token begins
-abbrev pub LexesTo : List ℕ → List Token → Option ℕ → Type 0
-LexesTo text ts None = AreTokens 0 text ts
-LexesTo text ts (Some offset) = BreaksBehind 0 text ts offset
 
 -- a text has a derivation, as an expression or, where the flag is set, as a pattern, and nothing is wrong with its tokens
 pub record IsRead (p : Bool) (scope : Bindings) (text : List ℕ) (ts : List Token) (t : Tree) : Type 0 where
@@ -97,7 +93,7 @@ pub record IsUnsound (p : Bool) (scope : Bindings) (text : List ℕ) (fault : Sy
 pub record IsUnread (p : Bool) (scope : Bindings) (text : List ℕ) (fault : SyntaxFault) : Type 0 where
   pub tokens : List Token
   pub stop : Option ℕ
-  pub lexes : LexesTo text tokens stop
+  pub lexes : AreRead text tokens stop
   pub count : ℕ
   pub stops : StopsAt p (lexemes_of text tokens) stop count
   pub tree : Tree

@@ -1,18 +1,3 @@
-<<<<<<< HEAD
-// stub
-ghost use Rattle.std.specs.Prelude.{◌≡◌, ◌≤◌, length, IfOk};
-ghost use Rattle.sx_lex.specs.Laws.{AreCuts, AreSpans};
-ghost use Rattle.sx_parse.specs.Checks as spec;
-
-use crate::faults::SyntaxFault;
-use crate::roles::Role;
-use std::alloc::{AllocError, Global};
-use sx_lex::Token;
-use sx_names::Scope;
-
-pub(crate) fn first_fault(
-    _alloc: Global,
-=======
 // What can be wrong with the tokens of an expression that has a derivation.
 ghost use Rattle.std.specs.Prelude.{◌≡◌, IfOk};
 ghost use Rattle.sx_parse.specs.Checks as spec;
@@ -35,20 +20,12 @@ const MOST_OPEN: u64 = 64;
 /// The first fault of the tokens of a text, which have these roles in an expression, or in a pattern.
 pub(crate) fn first_fault(
     alloc: Global,
->>>>>>> a90396ee9c9312d882281910d4514b68dc306f34
     pattern: bool,
     scope: &Scope,
     text: &str,
     tokens: &[Token],
     roles: &[Role],
 ) -> Result<Option<SyntaxFault>, AllocError>
-<<<<<<< HEAD
-    requires spans { AreSpans text.now 0 tokens.now }
-    requires cuts { AreCuts text.now tokens.now }
-    ensures { IfOk result (λ f. f ≡ spec.first_fault pattern scope.now text.now tokens.now roles.now tokens.now) }
-{
-    Err(AllocError)
-=======
     requires { AreParts text.now tokens.now }
     ensures { IfOk result (λ fault. fault ≡ spec.first_fault pattern scope.now text.now tokens.now roles.now tokens.now) }
 {
@@ -181,5 +158,4 @@ pub(crate) fn text_at<'a>(text: &'a str, tokens: &[Token], place: u32) -> &'a st
         None => "",
         Some(token) => token_text(text, *token),
     }
->>>>>>> a90396ee9c9312d882281910d4514b68dc306f34
 }
