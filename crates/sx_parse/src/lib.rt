@@ -1,7 +1,13 @@
 //! Reads expressions, value templates and patterns of XPath.
 #![tactic(auto)]
 
+mod begin;
+mod frames;
+mod joining;
 mod laws;
+mod levels;
 mod lexemes;
 mod nodes;
+mod reader;
 mod roles;
+mod words;
