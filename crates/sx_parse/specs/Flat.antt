@@ -277,11 +277,23 @@ abbrev pub follow_operator : Flat → Shape → ℕ → Lexeme → Operator → 
 follow_operator f sh c l o =
     if allows (in_pattern f) l && reaches (in_pattern f) (left_level o) sh then operate (joined_at (left_level o) f c).flat o else refuse f
 
+abbrev pub follow_comma : Flat → ℕ → Outcome
+follow_comma f c = if in_pattern f then refuse f else comma (joined_at 0 f c)
+
+abbrev pub follow_bracket : Flat → ℕ → Outcome
+follow_bracket f c = close_bracket (joined_at 0 f c).flat.frames (joined_at 0 f c).flat
+
+abbrev pub follow_else : Flat → ℕ → Outcome
+follow_else f c = else_under (joined_at 0 f c).flat.frames (joined_at 0 f c).flat
+
+abbrev pub follow_returned : Flat → ℕ → Lexeme → Outcome
+follow_returned f c l = returned (joined_at 0 f c).flat l
+
 abbrev pub follow_mark : Flat → Shape → ℕ → Mark → Outcome
 follow_mark f sh c (mark.Operator o) = follow_operator f sh c (lexeme.Mark (mark.Operator o)) o
-follow_mark f sh c mark.Comma = if in_pattern f then refuse f else comma (joined_at 0 f c)
+follow_mark f sh c mark.Comma = follow_comma f c
 follow_mark f sh c mark.Close = close (joined_at 0 f c)
-follow_mark f sh c mark.CloseBracket = close_bracket (joined_at 0 f c).flat.frames (joined_at 0 f c).flat
+follow_mark f sh c mark.CloseBracket = follow_bracket f c
 follow_mark f sh c mark.OpenBracket = open_predicate f sh
 follow_mark f sh c mark.Question = question f sh
 follow_mark f sh c m = refuse f
@@ -293,9 +305,9 @@ follow_casting f sh c k =
 abbrev pub follow_name : Flat → Shape → ℕ → Word → ℕ → Outcome
 follow_name f sh c (word.Operator o) p = follow_operator f sh c (lexeme.Name (word.Operator o) p) o
 follow_name f sh c (word.Casting k) p = follow_casting f sh c k
-follow_name f sh c word.Else p = else_under (joined_at 0 f c).flat.frames (joined_at 0 f c).flat
-follow_name f sh c word.Return p = returned (joined_at 0 f c).flat (lexeme.Name word.Return p)
-follow_name f sh c word.Satisfies p = returned (joined_at 0 f c).flat (lexeme.Name word.Satisfies p)
+follow_name f sh c word.Else p = follow_else f c
+follow_name f sh c word.Return p = follow_returned f c (lexeme.Name word.Return p)
+follow_name f sh c word.Satisfies p = follow_returned f c (lexeme.Name word.Satisfies p)
 follow_name f sh c w p = refuse f
 
 abbrev pub follow : Flat → Shape → ℕ → Lexeme → Outcome

@@ -2,6 +2,7 @@
 #![tactic(auto)]
 
 mod begin;
+mod follow;
 mod frames;
 mod joining;
 mod laws;
