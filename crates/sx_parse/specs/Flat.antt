@@ -342,9 +342,12 @@ abbrev pub open_name : Flat → StepPrefix → Word → ℕ → Outcome
 open_name f prefix.Plain w p = open_plain f w p
 open_name f pre w p = open_kind f pre w p
 
-abbrev pub name_axis : Flat → StepPrefix → Word → ℕ → Outcome
-name_axis f prefix.Plain w p =
+abbrev pub begin_axis : Flat → Word → ℕ → Outcome
+begin_axis f w p =
     if names_axis (in_pattern f) w then turn (relabelled f role.Plain) (mode.Axis (prefix.Axis w p)) role.Plain else refuse f
+
+abbrev pub name_axis : Flat → StepPrefix → Word → ℕ → Outcome
+name_axis f prefix.Plain w p = begin_axis f w p
 name_axis f pre w p = refuse f
 
 abbrev pub begin_binder : Flat → Binder → Outcome
@@ -357,11 +360,14 @@ abbrev pub name_binder : Flat → StepPrefix → Word → Outcome
 name_binder f prefix.Plain (word.Binder k) = begin_binder f k
 name_binder f pre w = refuse f
 
+abbrev pub follow_step : Flat → StepPrefix → Word → ℕ → Lexeme → Outcome
+follow_step f pre w p l = follow (with_node f (node.Step pre (test.Named w p))) shape.Filtered 1 l
+
 abbrev pub follow_named : Flat → StepPrefix → Word → ℕ → Lexeme → Outcome
 follow_named f pre w p (lexeme.Mark mark.Open) = open_name f pre w p
 follow_named f pre w p (lexeme.Mark mark.Colons) = name_axis f pre w p
 follow_named f pre w p (lexeme.Mark mark.Dollar) = name_binder f pre w
-follow_named f pre w p l = follow (with_node f (node.Step pre (test.Named w p))) shape.Filtered 1 l
+follow_named f pre w p l = follow_step f pre w p l
 
 -- ---- inside steps, bindings and casts
 
@@ -371,14 +377,17 @@ axis_test f pre (lexeme.Wild p) = have f (node.Step pre (test.Wild p)) role.Wild
 axis_test f pre (lexeme.Mark (mark.Operator (operator.Arith arith.Mul))) = have f (node.Step pre test.Any) role.Plain shape.Filtered
 axis_test f pre l = refuse f
 
+abbrev pub kind_name : Flat → StepPrefix → KindWord → ℕ → Word → ℕ → Outcome
+kind_name f pre k p w q = if takes_name k w then turn f (mode.KindName pre (test.KindOf k p w q)) (inner_role k) else refuse f
+
 abbrev pub in_kind : Flat → StepPrefix → KindWord → ℕ → Lexeme → Outcome
 in_kind f pre k p (lexeme.Mark mark.Close) = have f (node.Step pre (test.Kind k p)) role.Plain shape.Filtered
-in_kind f pre k p (lexeme.Name w q) = if takes_name k w then turn f (mode.KindName pre k p w q) (inner_role k) else refuse f
+in_kind f pre k p (lexeme.Name w q) = kind_name f pre k p w q
 in_kind f pre k p l = refuse f
 
-abbrev pub end_kind : Flat → StepPrefix → KindWord → ℕ → Word → ℕ → Lexeme → Outcome
-end_kind f pre k p w q (lexeme.Mark mark.Close) = have f (node.Step pre (test.KindOf k p w q)) role.Plain shape.Filtered
-end_kind f pre k p w q l = refuse f
+abbrev pub end_kind : Flat → StepPrefix → Test → Lexeme → Outcome
+end_kind f pre t (lexeme.Mark mark.Close) = have f (node.Step pre t) role.Plain shape.Filtered
+end_kind f pre t l = refuse f
 
 abbrev pub variable_name : Flat → Lexeme → Outcome
 variable_name f (lexeme.Name w p) = have f (node.Variable p) role.Name shape.Other
@@ -399,19 +408,24 @@ abbrev pub cast_as : Flat → Casting → Lexeme → Outcome
 cast_as f k (lexeme.Name word.As p) = turn f (mode.CastingAs k) role.Plain
 cast_as f k l = refuse f
 
+abbrev pub cast : Flat → Casting → ℕ → Outcome
+cast f k r = have f (node.Cast k r false) role.Type (shape.Cast k r false)
+
 abbrev pub cast_type : Flat → Casting → Lexeme → Outcome
-cast_type f k (lexeme.Name w r) = have f (node.Cast k r false) role.Type (shape.Cast k r false)
+cast_type f k (lexeme.Name w r) = cast f k r
 cast_type f k l = refuse f
 
 abbrev pub then_word : Flat → Lexeme → Outcome
 then_word f (lexeme.Name word.Then p) = expect f frame.Branch role.Plain
 then_word f l = refuse f
 
+abbrev pub follow_root : Flat → Lexeme → Outcome
+follow_root f l =
+    if reaches (in_pattern f) (floor f.frames) shape.Root then follow (with_node f node.Root) shape.Root 1 l else refuse f
+
 abbrev pub follow_slash : Flat → Lexeme → Outcome
 follow_slash f l =
-    if begins_step l then begin (under f (frame.Signed operator.Slash ∷ f.frames)) l
-    else if reaches (in_pattern f) (floor f.frames) shape.Root then follow (with_node f node.Root) shape.Root 1 l
-    else refuse f
+    if begins_step l then begin (under f (frame.Signed operator.Slash ∷ f.frames)) l else follow_root f l
 
 abbrev pub read_by : Mode → Flat → Lexeme → Outcome
 read_by mode.Want f l = begin f l
@@ -421,7 +435,7 @@ read_by (mode.Named pre w p) f l = follow_named f pre w p l
 read_by mode.Dollar f l = variable_name f l
 read_by (mode.Axis pre) f l = axis_test f pre l
 read_by (mode.Kind pre k p) f l = in_kind f pre k p l
-read_by (mode.KindName pre k p w q) f l = end_kind f pre k p w q l
+read_by (mode.KindName pre t) f l = end_kind f pre t l
 read_by (mode.Have sh c) f l = follow f sh c l
 read_by (mode.CommaBound k) f l = bound_dollar f k l
 read_by (mode.BinderDollar k i) f l = bound_name f k i l
@@ -442,11 +456,16 @@ whole_under fs f = refuse f
 abbrev pub whole : Flat → Outcome
 whole f = whole_under f.frames f
 
+abbrev pub end_step : Flat → StepPrefix → Word → ℕ → Outcome
+end_step f pre w p = whole (joined_at 0 (with_node f (node.Step pre (test.Named w p))) 1).flat
+
+abbrev pub end_root : Flat → Outcome
+end_root f = if reaches (in_pattern f) (floor f.frames) shape.Root then whole (joined_at 0 (with_node f node.Root) 1).flat else refuse f
+
 abbrev pub ended_by : Mode → Flat → Outcome
 ended_by (mode.Have sh c) f = whole (joined_at 0 f c).flat
-ended_by (mode.Named pre w p) f = whole (joined_at 0 (with_node f (node.Step pre (test.Named w p))) 1).flat
-ended_by mode.Slash f =
-    if reaches (in_pattern f) (floor f.frames) shape.Root then whole (joined_at 0 (with_node f node.Root) 1).flat else refuse f
+ended_by (mode.Named pre w p) f = end_step f pre w p
+ended_by mode.Slash f = end_root f
 ended_by m f = refuse f
 
 abbrev pub ended : Flat → Outcome

@@ -1,5 +1,5 @@
 // What is open and what is pending behind the tokens that were read.
-use crate::lexemes::{Binder, Casting, KindWord, Operator, StepPrefix, Word};
+use crate::lexemes::{Binder, Casting, KindWord, Operator, StepPrefix, Test, Word};
 
 /// What stands before an operand that is to come: its own operands are complete.
 #[derive(Clone, Copy, Debug, PartialEq, Eq)]
@@ -69,7 +69,8 @@ pub(crate) enum Mode {
     Axis(StepPrefix),
     /// behind the word of a kind and `(`
     Kind(StepPrefix, KindWord, u32),
-    KindName(StepPrefix, KindWord, u32, Word, u32),
+    /// behind the name in its parentheses
+    KindName(StepPrefix, Test),
     /// behind an operand; how many operands commas join in it
     Have(Shape, u64),
     /// behind a comma of bindings

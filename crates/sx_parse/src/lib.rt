@@ -8,6 +8,7 @@ mod joining;
 mod laws;
 mod levels;
 mod lexemes;
+mod named;
 mod nodes;
 mod reader;
 mod roles;
