@@ -10,6 +10,7 @@ mod levels;
 mod lexemes;
 mod named;
 mod nodes;
+mod probe;
 mod reader;
 mod roles;
 mod words;

@@ -324,12 +324,22 @@ impl Reader {
         }
     }
 
-    /// Whether no more is open.
+    /// Whether nothing is open or pending.
+    fn is_closed(&self) -> bool
+        ensures { outcome result (seen self.now) ≡ flat.whole (seen self.now) }
+    {
+        match self.frames.as_slice().last() {
+            None => true,
+            Some(_) => false,
+        }
+    }
+
+    /// Whether nothing is open behind an operand.
     fn whole(&mut self, operands: u64) -> Result<bool, AllocError>
         ensures { IfOk result (λ goes. outcome goes (seen self.new) ≡ flat.whole (flat.joined_at 0 (seen self.old) operands).flat) }
     {
         self.reach(0, operands)?;
-        Ok(self.frames.is_empty())
+        Ok(self.is_closed())
     }
 
     fn end_step(&mut self, prefix: StepPrefix, word: Word, place: u32) -> Result<bool, AllocError>

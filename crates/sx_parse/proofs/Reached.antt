@@ -74,9 +74,12 @@ is_pattern (otherwise p c q t r s) = is_pattern s
 is_pattern (binding g w r l s) = is_pattern s
 is_pattern (body bs l s) = is_pattern s
 
+abbrev pub raw : List Frame → List Node → List Role → ℕ → Bool → Mode → Flat
+raw fs ns rs d p m = record { frames = fs; nodes = ns; roles = rs; depth = d; pattern = p; mode = m }
+
 -- a stack with these nodes, roles and mode
 abbrev pub at : Stack → List Node → List Role → Mode → Flat
-at s ns rs m = record { frames = frames s; nodes = ns; roles = rs; depth = depth s; pattern = is_pattern s; mode = m }
+at s ns rs m = raw (frames s) ns rs (depth s) (is_pattern s) m
 
 -- an operand on a stack
 abbrev pub holding : Tree → Stack → Mode → Flat
@@ -107,29 +110,29 @@ joins_is false n fr made fs f c x y m p q = q
 
 pub same : (fs gs : List Frame) (ns ns' : List Node) (rs rs' : List Role) (d d' : ℕ) (p : Bool) (m : Mode) (c c' : ℕ) →
     ns ≡ ns' → rs ≡ rs' → d ≡ d' → c ≡ c' →
-    joined (under (record { frames = gs; nodes = ns; roles = rs; depth = d; pattern = p; mode = m }) fs) c
-    ≡ joined (record { frames = fs; nodes = ns'; roles = rs'; depth = d'; pattern = p; mode = m }) c'
+    joined (under (raw gs ns rs d p m) fs) c
+    ≡ joined (raw fs ns' rs' d' p m) c'
 same fs gs ns ns' rs rs' d d' p m c c' e f g h = cc
 
 -- ---- the frames of bindings
 
 bodies_all : (bs : Bindings) (n : ℕ) (fs gs : List Frame) (ns : List Node) (rs : List Role) (d : ℕ) (p : Bool) (m : Mode) (c : ℕ) → nat_le n 1 ≡ true →
-    flat.reach n (body_frames bs ++ fs) (record { frames = gs; nodes = ns; roles = rs; depth = d; pattern = p; mode = m }) c
-    ≡ flat.reach n fs (record { frames = fs; nodes = ns ++ name_nodes bs; roles = rs; depth = d - 1; pattern = p; mode = m }) 1
-bodies_all (first k i w r l a) n fs gs ns rs d p m c e = rw e refl
+    flat.reach n (body_frames bs ++ fs) (raw gs ns rs d p m) c
+    ≡ flat.reach n fs (raw fs (ns ++ name_nodes bs) rs (d - 1) p m) 1
+bodies_all (first k i w r l a) n fs gs ns rs d p m c e = rw (e, flat.reach) refl
 bodies_all (also bs w r l a) n fs gs ns rs d p m c e =
-    rw e (bodies_all bs n fs (body_frames bs ++ fs) (ns ++ node.Bind (binder_of bs) r ∷ []) rs d p m 1 e ∙ simp append_assoc)
+    rw (e, flat.reach) (bodies_all bs n fs (body_frames bs ++ fs) (ns ++ node.Bind (binder_of bs) r ∷ []) rs d p m 1 e ∙ simp append_assoc)
 
 bodies_none : (bs : Bindings) (n : ℕ) (fs : List Frame) (f : Flat) (c : ℕ) → nat_le n 1 ≡ false →
     flat.reach n (body_frames bs ++ fs) f c ≡ joined (under f (body_frames bs ++ fs)) c
-bodies_none (first k i w r l a) n fs f c e = rw e refl
-bodies_none (also bs w r l a) n fs f c e = rw e refl
+bodies_none (first k i w r l a) n fs f c e = rw (e, flat.reach) refl
+bodies_none (also bs w r l a) n fs f c e = rw (e, flat.reach) refl
 
 body_is : (b : Bool) (bs : Bindings) (n : ℕ) (fs gs : List Frame) (ns : List Node) (rs : List Role) (d : ℕ) (p : Bool) (m : Mode) (c : ℕ) (x y : Reached) →
     nat_le n 1 ≡ b →
-    flat.reach n fs (record { frames = fs; nodes = ns ++ name_nodes bs; roles = rs; depth = d - 1; pattern = p; mode = m }) 1 ≡ joined_of x m →
-    joined (under (record { frames = gs; nodes = ns; roles = rs; depth = d; pattern = p; mode = m }) (body_frames bs ++ fs)) c ≡ joined_of y m →
-    flat.reach n (body_frames bs ++ fs) (record { frames = gs; nodes = ns; roles = rs; depth = d; pattern = p; mode = m }) c ≡ joined_of (if b then x else y) m
+    flat.reach n fs (raw fs (ns ++ name_nodes bs) rs (d - 1) p m) 1 ≡ joined_of x m →
+    joined (under (raw gs ns rs d p m) (body_frames bs ++ fs)) c ≡ joined_of y m →
+    flat.reach n (body_frames bs ++ fs) (raw gs ns rs d p m) c ≡ joined_of (if b then x else y) m
 body_is true bs n fs gs ns rs d p m c x y e f g = bodies_all bs n fs gs ns rs d p m c e ∙ f
 body_is false bs n fs gs ns rs d p m c x y e f g = bodies_none bs n fs _ c e ∙ g
 
@@ -171,19 +174,19 @@ more_small xs ys zs rs k e h b = let l = simp length-append at (ap length e) in 
 
 pub reach_is : (n : ℕ) (t : Tree) (s : Stack) (gs : List Frame) (ns : List Node) (rs : List Role) (d c : ℕ) (m : Mode) →
     ns ≡ stack_nodes s ++ nodes t → rs ≡ stack_roles s ++ roles (depth s) t → d ≡ depth s → c ≡ operand_count t → Small (length rs) →
-    flat.reach n (frames s) (record { frames = gs; nodes = ns; roles = rs; depth = d; pattern = is_pattern s; mode = m }) c ≡ joined_of (reach n t s) m
+    flat.reach n (frames s) (raw gs ns rs d (is_pattern s) m) c ≡ joined_of (reach n t s) m
 reach_is n t (bottom p) gs ns rs d c m e f g h b = same _ gs ns _ rs _ d _ _ m c _ e f g h
 reach_is n t (pending a l o s) gs ns rs d c m e f g h b =
-    joins_is (nat_le n (level o)) n (frame.Pending o) (node.Binary o) (frames s) _ c (reach n (binary a l o t) s) (reached t (pending a l o s)) m
+    joins_is (nat_le n (level o)) n (frame.Pending o) (node.Binary o) (frames s) (raw gs ns rs d (is_pattern s) m) c (reach n (binary a l o t) s) (reached t (pending a l o s)) m
     (reach_is n (binary a l o t) s (frames s) (ns ++ node.Binary o ∷ []) rs d 1 m (rw e (simp append_assoc)) (f ∙ simp append_assoc) g refl b)
     (same (frames (pending a l o s)) gs ns _ rs _ d _ _ m c _ e f g h)
 reach_is n t (more a s) gs ns rs d c m e f g h b =
-    joins_is (nat_le n 0) n (frame.More (operand_count a)) node.Comma (frames s) _ c (reach n (comma a t) s) (reached t (more a s)) m
+    joins_is (nat_le n 0) n (frame.More (operand_count a)) node.Comma (frames s) (raw gs ns rs d (is_pattern s) m) c (reach n (comma a t) s) (reached t (more a s)) m
     (reach_is n (comma a t) s (frames s) (ns ++ node.Comma ∷ []) rs d (next (operand_count a)) m (rw e (simp append_assoc)) (f ∙ simp append_assoc) g
      (next_is (operand_count a) (more_small (stack_roles s) (roles (depth s) a) (roles (depth s) t) rs (operand_count a) f (count_le (depth s) a) b)) b)
     (same (frames (more a s)) gs ns _ rs _ d _ _ m c _ e f g h)
 reach_is n t (signed o s) gs ns rs d c m e f g h b =
-    joins_is (nat_le n (prefix_level o)) n (frame.Signed o) (node.Prefix o) (frames s) _ c (reach n (prefixed o t) s) (reached t (signed o s)) m
+    joins_is (nat_le n (prefix_level o)) n (frame.Signed o) (node.Prefix o) (frames s) (raw gs ns rs d (is_pattern s) m) c (reach n (prefixed o t) s) (reached t (signed o s)) m
     (reach_is n (prefixed o t) s (frames s) (ns ++ node.Prefix o ∷ []) rs d 1 m (rw e (simp append_assoc)) (f ∙ simp append_assoc) g refl b)
     (same (frames (signed o s)) gs ns _ rs _ d _ _ m c _ e f g h)
 reach_is n t (paren s) gs ns rs d c m e f g h b = same (frames (paren s)) gs ns _ rs _ d _ _ m c _ e f g h
@@ -192,7 +195,7 @@ reach_is n t (predicate i s) gs ns rs d c m e f g h b = same (frames (predicate 
 reach_is n t (condition p s) gs ns rs d c m e f g h b = same (frames (condition p s)) gs ns _ rs _ d _ _ m c _ e f g h
 reach_is n t (branch p i q s) gs ns rs d c m e f g h b = same (frames (branch p i q s)) gs ns _ rs _ d _ _ m c _ e f g h
 reach_is n t (otherwise p i q u r s) gs ns rs d c m e f g h b =
-    joins_is (nat_le n 1) n frame.Otherwise node.Choice (frames s) _ c (reach n (choice p i q u r t) s) (reached t (otherwise p i q u r s)) m
+    joins_is (nat_le n 1) n frame.Otherwise node.Choice (frames s) (raw gs ns rs d (is_pattern s) m) c (reach n (choice p i q u r t) s) (reached t (otherwise p i q u r s)) m
     (reach_is n (choice p i q u r t) s (frames s) (ns ++ node.Choice ∷ []) rs (d - 1) 1 m (rw e (simp append_assoc)) (f ∙ simp append_assoc) (omega arith) refl b)
     (same (frames (otherwise p i q u r s)) gs ns _ rs _ d _ _ m c _ e f g h)
 reach_is n t (binding i w r l s) gs ns rs d c m e f g h b = same (frames (binding i w r l s)) gs ns _ rs _ d _ _ m c _ e f g h

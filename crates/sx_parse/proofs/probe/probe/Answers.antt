@@ -1,0 +1,5 @@
+use Rattle.sx_parse.proofs.Reached.{reach_is}
+use Rattle.sx_parse.proofs.probe.probe.Goals as goal
+
+pub returns : goal.returns
+returns c = tt

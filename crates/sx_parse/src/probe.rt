@@ -1,0 +1,3 @@
+pub fn probe()
+    ensures { Unit {0} }
+{}
