@@ -1,2 +1,4 @@
 pub mod Running
 pub mod Reached
+pub mod Kept
+pub mod Following
