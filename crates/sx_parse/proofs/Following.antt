@@ -145,7 +145,7 @@ follow_operator_is t s m l o h =
     cond_is _ (allows (in_pattern s) l && reaches (in_pattern s) (left_level o) t) _ _ _ (allowed_is t s l (left_level o))
     (after_reach (left_level o) t s m (λ (j : Joined). flat.operate j.flat o) (λ (r : Reached). operate_on l o r) h (λ r. operate_is l o r m))
 
-replaced_is : {A : Type 0} (xs : List A) (x y : A) → replaced (xs ++ x ∷ []) y ≡ xs ++ y ∷ []
+pub replaced_is : {A : Type 0} (xs : List A) (x y : A) → replaced (xs ++ x ∷ []) y ≡ xs ++ y ∷ []
 replaced_is xs x y =
     let e : length (xs ++ x ∷ []) - 1 ≡ length xs = rw length-append (omega arith) in
     ap (λ i. slice_set (xs ++ x ∷ []) i y) e ∙ set-append_seam xs x [] y

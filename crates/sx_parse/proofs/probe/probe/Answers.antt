@@ -1,4 +1,4 @@
-use Rattle.sx_parse.proofs.Following.{follow_is}
+use Rattle.sx_parse.proofs.Simulation.{read_is}
 use Rattle.sx_parse.proofs.probe.probe.Goals as goal
 
 pub returns : goal.returns
