@@ -27,6 +27,7 @@ use Rattle.sx_parse.specs.declared.frames.Shape.TheVariants as shape
 use Rattle.sx_parse.specs.declared.frames.Mode.{Mode}
 use Rattle.sx_parse.specs.declared.frames.Mode.TheVariants as mode
 use Rattle.sx_parse.specs.declared.reader.Reader.{Reader}
+use Rattle.sx_parse.specs.declared.reader.Reading.{Reading}
 use Rattle.sx_parse.specs.Grammar.{level, left_level, casting_level, prefix_level, prefix_floor, names_axis, takes_name, introduces, returns, begins_step, allows}
 use Rattle.sx_parse.specs.Roles.{inner_role}
 
@@ -470,3 +471,25 @@ ended_by m f = refuse f
 
 abbrev pub ended : Flat → Outcome
 ended f = ended_by f.mode f
+
+-- ---- a list of tokens
+
+-- reading stops at the token with this number
+abbrev pub stopped : ℕ → List Role → Reading
+stopped k rs = record { nodes = []; roles = rs; fault = Some k }
+
+-- all is read
+abbrev pub given : Flat → Reading
+given f = record { nodes = f.nodes; roles = f.roles; fault = None }
+
+abbrev pub answer : ℕ → Outcome → Reading
+answer k (Err rs) = stopped k rs
+answer k (Ok f) = given f
+
+abbrev pub and_then : ℕ → Outcome → (Flat → Reading) → Reading
+and_then k (Err rs) g = stopped k rs
+and_then k (Ok f) g = g f
+
+abbrev pub run : Flat → ℕ → List Lexeme → Reading
+run f k [] = answer k (ended f)
+run f k (l ∷ ls) = and_then k (read f l) (λ after. run after (suc k) ls)

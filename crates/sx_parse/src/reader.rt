@@ -1,10 +1,11 @@
 // What was read, token by token.
-ghost use Rattle.std.specs.Prelude.{◌≡◌, []};
-ghost use Rattle.std.specs.Prelude.{IfOk};
+ghost use Rattle.std.specs.Prelude.{◌≡◌, ◌<◌, ◌^◌, IfOk, length};
 ghost use Rattle.sx_parse.specs.Flat as flat;
 ghost use Rattle.sx_parse.specs.Flat.{seen, outcome};
+ghost use Rattle.sx_parse.specs.Reading.{IsReadAs};
 
 use crate::frames::{Frame, Mode, Shape};
+use crate::lexemes::Lexeme;
 use crate::nodes::Node;
 use crate::roles::Role;
 use sqlite_items::Items;
@@ -24,6 +25,17 @@ pub(crate) struct Reader {
     /// whether a pattern is read
     pub pattern: bool,
     pub mode: Mode,
+}
+
+/// What is read of a list of tokens.
+#[derive(Drop)]
+pub(crate) struct Reading {
+    /// operands before what joins them; none at a fault
+    pub nodes: Items<Node>,
+    /// what each token is; at a fault, each before it
+    pub roles: Items<Role>,
+    /// the number of the token at which no reading goes on, counted from 0; where all the tokens begin one, how many there are
+    pub fault: Option<u32>,
 }
 
 /// Puts an item in the place of the last one.
@@ -105,4 +117,61 @@ impl Reader {
         self.depth = self.depth.saturating_sub(1);
         self.have(node, role, shape)
     }
+
+    fn stopped(self, alloc: Global, fault: u32) -> Reading
+        ensures { result ≡ flat.stopped fault (seen self).roles }
+    {
+        let Reader { roles, .. } = self;
+        let nodes = Items::new(alloc);
+        let fault = Some(fault);
+        Reading {
+            nodes,
+            roles,
+            fault,
+        }
+    }
+
+    fn given(self) -> Reading
+        ensures { result ≡ flat.given (seen self) }
+    {
+        let Reader { nodes, roles, .. } = self;
+        let fault = None;
+        Reading {
+            nodes,
+            roles,
+            fault,
+        }
+    }
+
+    fn ended(mut self, alloc: Global, count: u32) -> Result<Reading, AllocError>
+        ensures { IfOk result (λ reading. reading ≡ flat.answer count (flat.ended (seen self))) }
+    {
+        if self.end()? {
+            Ok(self.given())
+        } else {
+            Ok(self.stopped(alloc, count))
+        }
+    }
+}
+
+fn run(alloc: Global, pattern: bool, lexemes: &[Lexeme]) -> Result<Reading, AllocError>
+    requires { length lexemes.now < 2 ^ 32 }
+    ensures { IfOk result (λ reading. reading ≡ flat.run (flat.start pattern) 0 lexemes.now) }
+{
+    let mut reader = Reader::new(alloc, pattern);
+    for (at, lexeme) in lexemes.iter().enumerate() {
+        if !reader.read(*lexeme)? {
+            return Ok(reader.stopped(alloc, at as u32));
+        }
+    }
+    reader.ended(alloc, lexemes.len() as u32)
+}
+
+/// Reads fewer than 2^32 tokens of an expression, or of a pattern: the one derivation that they have, as its list and the roles of
+/// the tokens, or the first token at which no reading goes on, with the roles of those before it (XPath 3.1, A.1; XSLT 3.0, 5.5).
+pub(crate) fn read(alloc: Global, pattern: bool, lexemes: &[Lexeme]) -> Result<Reading, AllocError>
+    requires { length lexemes.now < 2 ^ 32 }
+    ensures { IfOk result (λ r. IsReadAs pattern lexemes.now r.nodes r.roles r.fault) }
+{
+    run(alloc, pattern, lexemes)
 }
