@@ -4,13 +4,13 @@ ghost use Rattle.sx_parse.specs.Flat as flat;
 ghost use Rattle.sx_parse.specs.Flat.{outcome, seen};
 
 use crate::frames::{Frame, Mode, Shape};
-use crate::joining::reaches;
+use crate::reaching::reaches;
 use crate::levels::{cast_operand_level, casting_level, left_level, level};
 use crate::lexemes::{Binder, Casting, Lexeme, Mark, Operator, Word};
 use crate::nodes::Node;
 use crate::reader::{Reader, replace_last};
 use crate::roles::Role;
-use crate::words::{allows, returns};
+use crate::rules::{allows, returns};
 use std::alloc::AllocError;
 
 impl Reader {

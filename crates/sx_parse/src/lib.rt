@@ -4,13 +4,12 @@
 mod begin;
 mod follow;
 mod frames;
-mod joining;
 mod laws;
 mod levels;
 mod lexemes;
 mod named;
 mod nodes;
-mod probe;
+mod reaching;
 mod reader;
 mod roles;
-mod words;
+mod rules;

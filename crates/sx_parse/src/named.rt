@@ -4,12 +4,12 @@ ghost use Rattle.sx_parse.specs.Flat as flat;
 ghost use Rattle.sx_parse.specs.Flat.{outcome, seen};
 
 use crate::frames::{Frame, Mode, Shape};
-use crate::joining::reaches;
+use crate::reaching::reaches;
 use crate::lexemes::{Binder, Casting, KindWord, Lexeme, Mark, Operator, StepPrefix, Test, Word};
 use crate::nodes::Node;
 use crate::reader::{Reader, replace_last};
 use crate::roles::Role;
-use crate::words::{begins_step, inner_role, introduces, names_axis, takes_name};
+use crate::rules::{begins_step, inner_role, introduces, names_axis, takes_name};
 use std::alloc::AllocError;
 use sx_kinds::ArithOp;
 

@@ -1,3 +1,0 @@
-pub fn probe()
-    ensures { Unit {0} }
-{}
