@@ -22,12 +22,19 @@ abbrev pub IsQuiet : List Lexeme → Type 0
 IsQuiet [] = Unit {0}
 IsQuiet (l ∷ ls) = turns l ≡ false
 
--- a derivation that begins with these tokens, in which the last of them is what it is by itself
+-- whether the last of these tokens is a name
+abbrev pub ends_in_name : List Lexeme → Bool
+ends_in_name [] = false
+ends_in_name (lexeme.Name w place ∷ []) = true
+ends_in_name (l ∷ []) = false
+ends_in_name (l ∷ m ∷ ls) = ends_in_name (m ∷ ls)
+
+-- a derivation that begins with these tokens, in which the last of them, where it is a name, is what it is by itself
 pub record Continues (p : Bool) (ts : List Lexeme) (t : Tree) : Type 0 where
   pub rest : List Lexeme
   pub fits : Fits p 0 t
   pub tokens_are : tokens t ≡ ts ++ rest
-  pub quiet : IsQuiet rest
+  pub quiet : ends_in_name ts ≡ true → IsQuiet rest
 
 -- all was read: the derivation, its list and its roles
 pub record IsWhole (p : Bool) (ts : List Lexeme) (given : List Node) (said : List Role) : Type 0 where
