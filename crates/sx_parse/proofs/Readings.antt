@@ -123,3 +123,6 @@ run_answers p ts (l ∷ ls) s b h =
 
 pub reads : (p : Bool) (ts : List Lexeme) → length ts < 2 ^ 32 → IsAnswer p ts (flat.run (flat.start p) 0 ts)
 reads p ts h = run_answers p [] ts (start p) refl h
+
+pub read_as : (p : Bool) (ts : List Lexeme) → length ts < 2 ^ 32 → (r : Reading) → r ≡ flat.run (flat.start p) 0 ts → IsAnswer p ts r
+read_as p ts h r e = let f = sym e in subst (IsAnswer p ts) f (reads p ts h)

@@ -194,7 +194,7 @@ then_word_is p c s l = refl
 
 -- ---- behind `/`
 
-root_is : (s : Stack) → flat.reaches (is_pattern s && nat_eq (depth s) 0) (flat.floor (frames s)) shape.Root ≡ reaches (in_pattern s) (floor s) root
+pub root_is : (s : Stack) → flat.reaches (is_pattern s && nat_eq (depth s) 0) (flat.floor (frames s)) shape.Root ≡ reaches (in_pattern s) (floor s) root
 root_is s =
     ap (λ (b : Bool). flat.reaches b (flat.floor (frames s)) shape.Root) (in_pattern_is s) ∙ ap (λ (n : ℕ). flat.reaches (in_pattern s) n shape.Root) (floor_is s)
 
