@@ -18,3 +18,8 @@ pub mod Parallel
 pub mod Refusals
 pub mod Final
 pub mod Building
+pub mod Reached
+pub mod Kept
+pub mod Following
+pub mod Simulation
+pub mod Readings
