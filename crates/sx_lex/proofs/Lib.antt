@@ -7,3 +7,4 @@ pub mod Runs
 pub mod Colons
 pub mod Readings
 pub mod Unique
+pub mod Breaks
