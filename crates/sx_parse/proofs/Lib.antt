@@ -23,3 +23,5 @@ pub mod Kept
 pub mod Following
 pub mod Simulation
 pub mod Readings
+pub mod Built
+pub mod Cuts

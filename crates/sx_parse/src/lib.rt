@@ -2,6 +2,7 @@
 #![tactic(auto)]
 
 mod begin;
+mod building;
 mod checks;
 mod faults;
 mod follow;
@@ -23,6 +24,13 @@ mod rules;
 mod stops;
 pub mod template_laws;
 mod templates;
+mod meanings;
+mod nodes;
+mod numbering;
+mod operands;
+mod patterns;
+mod roles;
+mod steps;
 mod words;
 
 pub use faults::{Numbering, SyntaxFault};

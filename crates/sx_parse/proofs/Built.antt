@@ -3,7 +3,7 @@ use Rattle.std.proofs.Common.{◌≡◌, List, [], ◌∷◌, ◌++◌, refl, ap
 use Rattle.sx_kinds.specs.declared.expressions.Expr.{Expr}
 use Rattle.sx_parse.specs.declared.nodes.Node.{Node}
 use Rattle.sx_parse.specs.declared.nodes.Node.TheVariants as node
-use Rattle.sx_parse.specs.Building.{put, built}
+use Rattle.sx_parse.specs.Built.{put, built}
 use Rattle.sx_parse.specs.Grammar.{Tree, literal, dot, parent, root, variable, step, empty, parens, call, called, filter, comma, prefixed, binary, cast, choice, bind, Bindings, first, also, binder_of}
 use Rattle.sx_parse.specs.Nodes.{takes_more, nodes, value_nodes, name_nodes}
 use Rattle.sx_parse.specs.Says.{Meaning, operands, bound_in, whole, bound_by, number_at}

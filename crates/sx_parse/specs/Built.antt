@@ -7,7 +7,8 @@ use Rattle.sx_tree.specs.declared.steps.Axis.TheVariants as axis
 use Rattle.sx_tree.specs.declared.steps.NodeTest.TheVariants as node_test
 use Rattle.sx_parse.specs.declared.nodes.Node.{Node}
 use Rattle.sx_parse.specs.declared.nodes.Node.TheVariants as node
-use Rattle.sx_parse.specs.Says.{Meaning, made, number_at, any_type, step_of, step_axis, node_test_of, literal_atom, type_at, root_of, begun_by, joined_by, cast_by, bound_by, whole, filtered, call_of}
+use Rattle.sx_parse.specs.Literals.{IsLiteral}
+use Rattle.sx_parse.specs.Says.{Meaning, made, number_at, spelled, token_kind_at, any_type, step_of, step_axis, node_test_of, literal_atom, type_at, root_of, begun_by, joined_by, cast_by, bound_by, whole, filtered, call_of}
 
 -- the operands on top, and what is below them
 abbrev pub top : List (List Expr) → List Expr
@@ -47,3 +48,17 @@ put m (node.Bind k r) s = (bound_by m k (number_at m r) (whole_top m (below s)) 
 abbrev pub built : Meaning → List Node → List (List Expr) → List (List Expr)
 built m [] s = s
 built m (n ∷ ns) s = built m ns (put m n s)
+
+-- the token at a place is a literal
+abbrev pub IsLiteralAt : Meaning → ℕ → Type 0
+IsLiteralAt m place = IsLiteral (token_kind_at m place) (spelled m place)
+
+-- a node, if it is a literal, stands for a token that is one
+abbrev pub IsLiteralIn : Meaning → Node → Type 0
+IsLiteralIn m (node.Literal place) = IsLiteralAt m place
+IsLiteralIn m n = Unit {0}
+
+-- so do the literals among nodes
+abbrev pub AreLiteralsIn : Meaning → List Node → Type 0
+AreLiteralsIn m [] = Unit {0}
+AreLiteralsIn m (n ∷ ns) = IsLiteralIn m n × AreLiteralsIn m ns
