@@ -25,3 +25,4 @@ pub mod Simulation
 pub mod Readings
 pub mod Built
 pub mod Cuts
+pub mod LiteralPlaces

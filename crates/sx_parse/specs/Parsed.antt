@@ -9,11 +9,15 @@ use Rattle.sx_kinds.specs.declared.expressions.Pattern.{Pattern}
 use Rattle.sx_lex.specs.declared.kinds.Token.{Token}
 use Rattle.sx_parse.specs.declared.faults.Numbering.{Numbering}
 use Rattle.sx_parse.specs.declared.faults.SyntaxFault.{SyntaxFault}
+use Rattle.sx_parse.specs.declared.nodes.Node.{Node}
+use Rattle.sx_parse.specs.declared.roles.Role.{Role}
 use Rattle.sx_parse.specs.Answers.{IsRead, IsRefused, meaning, names_with, too_long}
 use Rattle.sx_parse.specs.Checks.{Bindings, most_bytes}
 use Rattle.sx_parse.specs.Grammar.{Tree}
 use Rattle.sx_parse.specs.Numbered.{count, numbered, step_count, numbered_steps}
+use Rattle.sx_parse.specs.Nodes.{nodes}
 use Rattle.sx_parse.specs.Numbers.{Name}
+use Rattle.sx_parse.specs.Roles.{roles}
 use Rattle.sx_parse.specs.Says.{says, alternatives}
 use Rattle.sx_parse.specs.Templates.{Piece, fixed, inner, written, all_written, ArePieces, Ends, Breaks}
 
@@ -25,6 +29,11 @@ pub record IsSaid (scope : Bindings) (text : List ℕ) (line : ℕ) (old : List 
   pub names : new ≡ names_with scope text tokens tree old
   pub expression : e ≡ numbered n (says (meaning scope text tokens tree new line) tree)
   pub next : m ≡ n + count (says (meaning scope text tokens tree new line) tree)
+
+-- what a text that was read says with these names: for the derivation with these nodes and roles, its expression without numbers
+abbrev pub IsSaying : Bindings → List ℕ → List Token → List Node → List Role → ℕ → List Name → List Name → Expr → Type 0
+IsSaying scope text ts given said line old new e =
+    (t : Tree) → given ≡ nodes t → said ≡ roles 0 t → (new ≡ names_with scope text ts t old) × (e ≡ says (meaning scope text ts t new line) t)
 
 -- the answer for an expression
 pub record IsExpression (scope : Bindings) (text : List ℕ) (old new : List Name) (at after : Numbering) (e : Expr) : Type 0 where

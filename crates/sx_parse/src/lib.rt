@@ -4,6 +4,7 @@
 mod begin;
 mod building;
 mod checks;
+mod expressions;
 mod faults;
 mod follow;
 mod forms;
@@ -17,6 +18,7 @@ mod meanings;
 mod named;
 mod nodes;
 mod numbering;
+mod numbers;
 mod operands;
 mod parsing;
 mod patterns;
