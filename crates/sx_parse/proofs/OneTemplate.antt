@@ -22,7 +22,7 @@ doubled_first c cs x = by (is_brace c)
     by false = refl
 
 -- fixed text begins where fixed text may go on
-apart : (c : ℕ) (cs y : List ℕ) → StopsFixed (doubled (c ∷ cs) ++ y) → ⊥
+pub apart : (c : ℕ) (cs y : List ℕ) → StopsFixed (doubled (c ∷ cs) ++ y) → ⊥
 apart c cs y h = by (is_brace c) refl (subst StopsFixed (doubled_first c cs y) h)
   where
     by : (b : Bool) → is_brace c ≡ b → StopsFixed (c ∷ after b c (doubled cs ++ y)) → ⊥
