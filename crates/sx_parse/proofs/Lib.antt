@@ -6,6 +6,7 @@ pub mod Braces
 pub mod FixedText
 pub mod Pieces
 pub mod OneTemplate
+pub mod Cuts
 pub mod Pending
 pub mod Complete
 pub mod Joining
@@ -24,5 +25,5 @@ pub mod Following
 pub mod Simulation
 pub mod Readings
 pub mod Built
-pub mod Cuts
 pub mod LiteralPlaces
+pub mod CutTemplates
