@@ -4,3 +4,6 @@ pub mod Quotes
 pub mod Running
 pub mod Built
 pub mod Cuts
+pub mod LiteralNodes
+pub mod Counted
+pub mod Unions
