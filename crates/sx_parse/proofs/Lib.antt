@@ -27,3 +27,6 @@ pub mod Readings
 pub mod Built
 pub mod LiteralPlaces
 pub mod CutTemplates
+pub mod LiteralNodes
+pub mod Counted
+pub mod Unions
