@@ -8,6 +8,7 @@ pub mod laws;
 mod lexemes;
 mod lexing;
 mod nodes;
+mod numbers;
 mod roles;
 mod words;
 
