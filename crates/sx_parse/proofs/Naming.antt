@@ -179,9 +179,9 @@ module _ (scope : Bindings) (text : List ℕ) where
       let same : names ++ [] ≡ names = append-nil names in (
         sym (ap (with_names names) left.0) ∙ all.named,
         sym (append-nil numbers)
-        ∙ ap (λ (ms : List ℕ). numbers ++ ms) (sym (left.1 (names ++ [])))
-        ∙ all.numbered []
-        ∙ ap (λ (xs : List Name). numbers_among xs scope text rs ts) same,
+            ∙ ap (λ (ms : List ℕ). numbers ++ ms) (sym (left.1 (names ++ [])))
+            ∙ all.numbered []
+            ∙ ap (λ (xs : List Name). numbers_among xs scope text rs ts) same,
       )
 
 abbrev pair : List ℕ → List ℕ → Name
