@@ -12,6 +12,7 @@ use sx_lex::{Token, Tokens, tokens};
 
 /// The tokens of a text, what they are to the grammar, and the offset at which no token begins, in bytes, counted from 0, if
 /// there is one: then the tokens are those in front of it.
+#[derive(Drop)]
 pub(crate) struct Lexed {
     pub tokens: Tokens,
     pub lexemes: Items<Lexeme>,

@@ -10,6 +10,8 @@ mod lexing;
 mod nodes;
 mod numbers;
 mod roles;
+#[cfg(test)]
+mod token_tests;
 mod words;
 
 pub use faults::{Numbering, SyntaxFault};
