@@ -33,4 +33,5 @@ mod templates;
 mod token_tests;
 mod words;
 
+pub use expressions::parse_expr;
 pub use faults::{Numbering, SyntaxFault};
