@@ -45,9 +45,8 @@ pub record IsExpression (scope : Bindings) (text : List ℕ) (old new : List Nam
 abbrev pub pattern_at : Numbering → Construct
 pattern_at at = record { number = at.next; line = at.line; kind = kind.Pattern }
 
--- the answer for a pattern
-pub record IsPattern (scope : Bindings) (text : List ℕ) (old new : List Name) (at after : Numbering) (q : Pattern) : Type 0 where
-  pub within : length text ≤ most_bytes
+-- a text is read as this pattern, its constructs numbered from a number on, and its names are added to these
+pub record IsPatternOf (scope : Bindings) (text : List ℕ) (old new : List Name) (at after : Numbering) (q : Pattern) : Type 0 where
   pub tokens : List Token
   pub tree : Tree
   pub is : IsRead true scope text tokens tree
@@ -56,6 +55,11 @@ pub record IsPattern (scope : Bindings) (text : List ℕ) (old new : List Name) 
   pub alternatives_are : q.alternatives ≡ in_order true (suc at.next) (map numbers_in (alternatives (meaning scope text tokens tree new at.line) tree))
   pub next : after.next ≡ suc at.next + counts true (map numbers_in (alternatives (meaning scope text tokens tree new at.line) tree))
   pub line : after.line ≡ at.line
+
+-- the answer for a pattern
+pub record IsPattern (scope : Bindings) (text : List ℕ) (old new : List Name) (at after : Numbering) (q : Pattern) : Type 0 where
+  pub within : length text ≤ most_bytes
+  pub is : IsPatternOf scope text old new at after q
 
 -- ---- value templates
 

@@ -54,7 +54,7 @@ fn number_in(alloc: Global, expr: Expr, outside: bool, at: &mut Numbering) -> Re
 }
 
 #[cycle(numbering)]
-fn number_parts(alloc: Global, parts: Exprs, outside: bool, at: &mut Numbering) -> Result<Exprs, AllocError>
+pub(crate) fn number_parts(alloc: Global, parts: Exprs, outside: bool, at: &mut Numbering) -> Result<Exprs, AllocError>
     requires { at.old.next + counts outside (map numbers_in parts) < 2 ^ 64 }
     ensures exprs { IfOk result (λ es. es ≡ in_order outside at.old.next (map numbers_in parts)) }
     ensures next { OnOk result (at.new.next ≡ at.old.next + counts outside (map numbers_in parts)) }
