@@ -38,7 +38,7 @@ begun_form m o e = plain_form m kind.Unary (form.Unary false) (e ∷ []) refl
 filtered_form : (m : Meaning) (more : Bool) (b e : Expr) → is_union (form_of b) ≡ false → is_union (form_of (filtered m more b e)) ≡ false
 filtered_form m true b e h =
     ap (λ (x : Expr-F Expr). is_union x.form)
-        (out-roll-Expr (record { construct = (out-Expr b).construct; deep = (out-Expr b).deep; form = (out-Expr b).form; parts = (out-Expr b).parts ++ e ∷ [] }))
+    (out-roll-Expr (record { construct = (out-Expr b).construct; deep = (out-Expr b).deep; form = (out-Expr b).form; parts = (out-Expr b).parts ++ e ∷ [] }))
     ∙ h
 filtered_form m false b e h = plain_form m kind.Filter form.Filter (b ∷ e ∷ []) refl
 

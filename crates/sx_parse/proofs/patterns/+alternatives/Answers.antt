@@ -13,9 +13,9 @@ pub returns-then-not-joined : goal.returns-then-not-joined
 returns-then-not-joined t c =
     let u : is_union (form_of c.args.expr) ≡ false = cc (c.is_a_union-joined.ensures, c.if-not-joined.true) in
     IfOk-weaker c.one.result (λ es. es ≡ c.args.expr ∷ [])
-        (λ es. (m : Meaning) (n : ℕ) (t' : Tree) → Fits true n t' → c.args.expr ≡ spec.says m t' → es ≡ spec.alternatives m t')
-        (λ es e m n t' f q. e ∙ no_union m t' c.args.expr q u)
-        c.one.ensures
+    (λ es. (m : Meaning) (n : ℕ) (t' : Tree) → Fits true n t' → c.args.expr ≡ spec.says m t' → es ≡ spec.alternatives m t')
+    (λ es e m n t' f q. e ∙ no_union m t' c.args.expr q u)
+    c.one.ensures
 
 pub returns-in_default : goal.returns-in_default
 returns-in_default t c = λ m n t' f q.
