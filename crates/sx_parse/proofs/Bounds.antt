@@ -6,7 +6,7 @@ use Rattle.sx_parse.specs.declared.lexemes.Lexeme.{Lexeme}
 use Rattle.sx_parse.specs.declared.nodes.Node.{Node}
 use Rattle.sx_parse.specs.declared.roles.Role.{Role}
 use Rattle.sx_parse.specs.Checks.{Bindings}
-use Rattle.sx_parse.specs.Grammar.{tokens}
+use Rattle.sx_parse.specs.Grammar.{Tree, Fits, tokens}
 use Rattle.sx_parse.specs.Numbered.{count, counts, numbers_in}
 use Rattle.sx_parse.specs.Says.{Meaning, says, alternatives}
 use Rattle.sx_parse.specs.Understanding.{IsUnderstood}
@@ -40,3 +40,8 @@ few_in_pattern p scope text ts ns rs u m es is =
 pub on_ok : {A B P Q : Type 0} (r : Result A B) → (P → Q) → OnOk r P → OnOk r Q
 on_ok (Ok a) f h = f h
 on_ok (Err e) f h = tt
+
+pub few_alternatives : (scope : Bindings) (text : List ℕ) (ts : List Token) (ns : List Node) (rs : List Role) (u : IsUnderstood true scope text ts ns rs)
+    (m : Meaning) (e : Expr) (es : List Expr) → e ≡ says m u.tree →
+    ((m : Meaning) (n : ℕ) (t : Tree) → Fits true n t → e ≡ says m t → es ≡ alternatives m t) → suc (counts true (map numbers_in es)) ≤ 2 * length text
+few_alternatives scope text ts ns rs u m e es is are = few_in_pattern true scope text ts ns rs u m es (are m 0 u.tree u.is.derives.fits is)

@@ -35,3 +35,4 @@ mod words;
 
 pub use expressions::parse_expr;
 pub use faults::{Numbering, SyntaxFault};
+pub use patterns::parse_pattern;
