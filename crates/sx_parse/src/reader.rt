@@ -49,6 +49,7 @@ pub(crate) fn replace_last<T: Drop>(items: &mut Items<T>, item: T)
 }
 
 impl Reader {
+    /// Nothing is read yet.
     pub fn new(alloc: Global, pattern: bool) -> Reader
         ensures { seen result ≡ flat.start pattern }
     {
