@@ -148,7 +148,7 @@ copied_goes_on text offset fixed end brace next utf8 h twice run =
     let at : get_or text brace 0 ≡ get_or (drop end text) n 0 = sym (get_or-drop end text n 0 ∙ ap (λ (k : ℕ). get_or text k 0) (sym h.run)) in
     let behind : drop (brace + 1) text ≡ drop (suc n) (drop end text) = sym (drop-drop (suc n) end text ∙ ap (λ (k : ℕ). drop k text) (omega arith)) in
     let again : begins_with (get_or (drop end text) n 0) (drop (suc n) (drop end text)) ≡ true =
-        ap (λ (c : ℕ). begins_with c (drop (suc n) (drop end text))) (sym at) ∙ ap (begins_with (get_or text brace 0)) (sym behind) ∙ twice in
+    ap (λ (c : ℕ). begins_with c (drop (suc n) (drop end text))) (sym at) ∙ ap (begins_with (get_or text brace 0)) (sym behind) ∙ twice in
     let long : end + suc (suc n) - offset ≡ brace + 2 - offset = omega arith in
     let short : suc n ≡ brace + 1 - end = omega arith in record {
       order = omega arith;

@@ -1,11 +1,15 @@
 pub mod Tables
 pub mod Parts
+pub mod Literals
 pub mod Quotes
+pub mod Failing
+pub mod Naming
 pub mod Running
 pub mod Braces
 pub mod FixedText
 pub mod Pieces
 pub mod OneTemplate
+pub mod Cuts
 pub mod Pending
 pub mod Complete
 pub mod Joining
@@ -24,5 +28,8 @@ pub mod Following
 pub mod Simulation
 pub mod Readings
 pub mod Built
-pub mod Cuts
 pub mod LiteralPlaces
+pub mod CutTemplates
+pub mod LiteralNodes
+pub mod Counted
+pub mod Unions

@@ -22,7 +22,7 @@ doubled_first c cs x = by (is_brace c)
     by false = refl
 
 -- fixed text begins where fixed text may go on
-apart : (c : ℕ) (cs y : List ℕ) → StopsFixed (doubled (c ∷ cs) ++ y) → ⊥
+pub apart : (c : ℕ) (cs y : List ℕ) → StopsFixed (doubled (c ∷ cs) ++ y) → ⊥
 apart c cs y h = by (is_brace c) refl (subst StopsFixed (doubled_first c cs y) h)
   where
     by : (b : Bool) → is_brace c ≡ b → StopsFixed (c ∷ after b c (doubled cs ++ y)) → ⊥
@@ -148,7 +148,7 @@ pieces_once b (fixed [] ∷ ps) (q ∷ qs) x y cut_p cut_q stops_x stops_y e = a
 pieces_once b (fixed (c ∷ cs) ∷ ps) (fixed [] ∷ qs) x y cut_p cut_q stops_x stops_y e = absurd cut_q
 pieces_once b (fixed (c ∷ cs) ∷ ps) (fixed (d ∷ ds) ∷ qs) x y cut_p cut_q stops_x stops_y e =
     let both = fixed_once (c ∷ cs) (d ∷ ds) (all_written ps ++ x) (all_written qs ++ y) (pieces_stop ps x cut_p.1 stops_x) (pieces_stop qs y cut_q.1 stops_y)
-        (sym (append_assoc (doubled (c ∷ cs)) (all_written ps) x) ∙ e ∙ append_assoc (doubled (d ∷ ds)) (all_written qs) y) in
+    (sym (append_assoc (doubled (c ∷ cs)) (all_written ps) x) ∙ e ∙ append_assoc (doubled (d ∷ ds)) (all_written qs) y) in
     let rest = pieces_once true ps qs x y cut_p.1 cut_q.1 stops_x stops_y both.1 in
     (ap (λ (t : List ℕ). fixed t ∷ ps) both.0 ∙ ap (λ (zs : List Piece). fixed (d ∷ ds) ∷ zs) rest.0, rest.1)
 pieces_once b (fixed (c ∷ cs) ∷ ps) (inner u ∷ qs) x y cut_p cut_q stops_x stops_y e =
@@ -160,7 +160,7 @@ pieces_once b (inner t ∷ ps) (fixed (d ∷ ds) ∷ qs) x y cut_p cut_q stops_x
     (sym (append_assoc (doubled (d ∷ ds)) (all_written qs) y) ∙ sym e ∙ append_assoc (written (inner t)) (all_written ps) x))
 pieces_once b (inner t ∷ ps) (inner u ∷ qs) x y cut_p cut_q stops_x stops_y e =
     let whole : 123 ∷ (t ++ 125 ∷ (all_written ps ++ x)) ≡ 123 ∷ (u ++ 125 ∷ (all_written qs ++ y)) =
-        sym (append_assoc (written (inner t)) (all_written ps) x ∙ inner_first t (all_written ps ++ x)) ∙ e ∙ append_assoc (written (inner u)) (all_written qs) y ∙ inner_first u (all_written qs ++ y) in
+    sym (append_assoc (written (inner t)) (all_written ps) x ∙ inner_first t (all_written ps ++ x)) ∙ e ∙ append_assoc (written (inner u)) (all_written qs) y ∙ inner_first u (all_written qs ++ y) in
     let both = closed_once 0 t u (all_written ps ++ x) (all_written qs ++ y) cut_p.1 cut_q.1 (cc) in
     let rest = pieces_once false ps qs x y cut_p.2 cut_q.2 stops_x stops_y both.1 in
     (ap (λ (t : List ℕ). inner t ∷ ps) both.0 ∙ ap (λ (zs : List Piece). inner u ∷ zs) rest.0, rest.1)

@@ -44,7 +44,7 @@ inner_is text offset start end h =
     let mark : get_or text end 0 ≡ 125 = ap (λ (n : ℕ). get_or text n 0) (omega arith) ∙ sym (get_or-drop start text (end - start) 0) ∙ h.front.mark in
     let close : drop end text ≡ 125 ∷ drop (suc end) text = drop-cons text end 0 within ∙ ap (λ (c : ℕ). c ∷ drop (suc end) text) mark in
     let first : drop offset text ≡ 123 ∷ drop start text =
-        drop-cons text offset 0 (omega arith) ∙ ap (λ (c : ℕ). c ∷ drop (suc offset) text) h.opens ∙ ap (λ (n : ℕ). 123 ∷ drop n text) (sym begins) in
+    drop-cons text offset 0 (omega arith) ∙ ap (λ (c : ℕ). c ∷ drop (suc offset) text) h.opens ∙ ap (λ (n : ℕ). 123 ∷ drop n text) (sym begins) in
     first
     ∙ ap (λ (rest : List ℕ). 123 ∷ rest) (sym (behind text start end order) ∙ ap (λ (rest : List ℕ). inner_of text start end ++ rest) close ∙ sym (append_assoc (inner_of text start end) (125 ∷ []) (drop (suc end) text)))
 

@@ -66,14 +66,13 @@ module _ (q : ℕ) (text rest front back out pushed : List ℕ) (cut : rest ≡ 
   quotes_end last = sym (append-nil pushed) ∙ ap (λ (s : List ℕ). pushed ++ s) (sym (last_quote q back here last)) ∙ now
 
   pub quotes_go_on : (after more : List ℕ) → back ≡ q ∷ after → more ≡ pushed ++ q ∷ [] → (closes q after ≡ true) × (more ++ unquoted q after ≡ unquoted q text)
-  quotes_go_on after more doubled one =
-      (
-        (behind_quote q q after (sym (ap (λ (s : List ℕ). closes q (q ∷ s)) doubled) ∙ here)).1,
-        ap (λ (s : List ℕ). s ++ unquoted q after) one
+  quotes_go_on after more doubled one = (
+    (behind_quote q q after (sym (ap (λ (s : List ℕ). closes q (q ∷ s)) doubled) ∙ here)).1,
+    ap (λ (s : List ℕ). s ++ unquoted q after) one
         ∙ append_assoc pushed (q ∷ []) (unquoted q after)
         ∙ ap (λ (s : List ℕ). pushed ++ s) (sym (ap (λ (s : List ℕ). unquoted q (q ∷ s)) doubled ∙ ap (λ (v : Bool). cond v (q ∷ unquoted q after) (q ∷ unquoted q (q ∷ after))) (itself q)))
         ∙ now,
-      )
+  )
 
 quote_at : (q : ℕ) (front back : List ℕ) → get_or (front ++ q ∷ back) (length front) 0 ≡ q
 quote_at q [] back = refl

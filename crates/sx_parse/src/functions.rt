@@ -69,8 +69,14 @@ const FUNCTIONS: [(&[u8], Function); 48] = [
     (b"snapshot", Function::Seq(SeqFn::Snapshot)),
     (b"current", Function::Seq(SeqFn::Current)),
     (b"current-group", Function::Seq(SeqFn::CurrentGroup)),
-    (b"current-grouping-key", Function::Seq(SeqFn::CurrentGroupingKey)),
-    (b"accumulator-before", Function::Seq(SeqFn::AccumulatorBefore)),
+    (
+        b"current-grouping-key",
+        Function::Seq(SeqFn::CurrentGroupingKey),
+    ),
+    (
+        b"accumulator-before",
+        Function::Seq(SeqFn::AccumulatorBefore),
+    ),
     (b"accumulator-after", Function::Seq(SeqFn::AccumulatorAfter)),
 ];
 
@@ -192,7 +198,11 @@ fn unquoted(alloc: Global, quote: char, text: &str) -> Result<String, AllocError
 }
 
 /// The value of a literal: a number as its text is cast, or the text in quotes.
-pub(crate) fn literal(alloc: Global, kind: TokenKind, text: &str) -> Result<Result<Atom, Code>, AllocError>
+pub(crate) fn literal(
+    alloc: Global,
+    kind: TokenKind,
+    text: &str,
+) -> Result<Result<Atom, Code>, AllocError>
     requires { IsLiteral kind text.now }
     ensures { IfOk result (λ value. value ≡ spec.literal_of kind text.now) }
 {
@@ -204,7 +214,11 @@ pub(crate) fn literal(alloc: Global, kind: TokenKind, text: &str) -> Result<Resu
 }
 
 /// The value of a literal that is a number.
-pub(crate) fn number(alloc: Global, text: &str, to: AtomType) -> Result<Result<Atom, Code>, AllocError>
+pub(crate) fn number(
+    alloc: Global,
+    text: &str,
+    to: AtomType,
+) -> Result<Result<Atom, Code>, AllocError>
     ensures { IfOk result (λ value. value ≡ cast_of (Atom.Untyped text.now) to) }
 {
     cast(alloc, &Atom::Untyped(Text::copy(alloc, text)?), to)

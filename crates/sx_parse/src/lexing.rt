@@ -40,7 +40,10 @@ fn tokens_and_stop(alloc: Global, text: &str) -> Result<(Tokens, Option<u32>), A
 {
     match tokens(alloc, text)? {
         Ok(tokens) => Ok((tokens, None)),
-        Err(fault) => Ok((tokens_before(alloc, text, fault.offset)?, Some(fault.offset))),
+        Err(fault) => Ok((
+            tokens_before(alloc, text, fault.offset)?,
+            Some(fault.offset),
+        )),
     }
 }
 

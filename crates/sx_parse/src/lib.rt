@@ -32,6 +32,7 @@ mod steps;
 mod stops;
 pub mod template_laws;
 mod templates;
+mod token_tests;
 mod words;
 
 pub use faults::{Numbering, SyntaxFault};

@@ -76,7 +76,10 @@ const WORDS: [(&[u8], Word); 44] = [
     (b"text", Word::Kind(KindWord::Text)),
     (b"comment", Word::Kind(KindWord::Comment)),
     (b"document-node", Word::Kind(KindWord::DocumentNode)),
-    (b"processing-instruction", Word::Kind(KindWord::ProcessingInstruction)),
+    (
+        b"processing-instruction",
+        Word::Kind(KindWord::ProcessingInstruction),
+    ),
     (b"element", Word::Kind(KindWord::Element)),
     (b"attribute", Word::Kind(KindWord::Attribute)),
     (b"self", Word::Axis(Axis::SelfNode)),
