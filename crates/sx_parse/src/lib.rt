@@ -25,6 +25,8 @@ mod parsing;
 mod patterns;
 mod reaching;
 mod reader;
+#[cfg(test)]
+mod reader_tests;
 mod roles;
 mod rules;
 mod states;
