@@ -21,7 +21,6 @@ pub mod Exact
 pub mod Parallel
 pub mod Refusals
 pub mod Final
-pub mod Building
 pub mod Reached
 pub mod Kept
 pub mod Following
