@@ -1,0 +1,6 @@
+use Rattle.std.proofs.Common.{◌≡◌, ◌≤◌, drop}
+use Rattle.sx_parse.specs.Answers as spec
+use Rattle.sx_parse.proofs.stops.is_inside.Given as goal
+
+abbrev pub invariant-loop-lexeme : goal.invariant-loop-lexeme
+invariant-loop-lexeme l = (l.count ≤ l.lexeme-index) × (spec.is_inside 0 l.lexemes ≡ spec.is_inside l.count (drop l.lexeme-index l.lexemes))
