@@ -30,6 +30,9 @@ mod steps;
 mod stops;
 pub mod template_laws;
 mod templates;
+#[cfg(test)]
+mod tests;
+#[cfg(test)]
 mod token_tests;
 mod words;
 
