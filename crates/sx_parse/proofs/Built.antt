@@ -62,16 +62,16 @@ mutual
       let ts : List (List Expr) = operands m t ∷ cs in
       let es : List (List Expr) = operands m e ∷ ts in
       then_built m (nodes c ++ nodes t ++ nodes e) (node.Choice ∷ []) s es (put m node.Choice es)
-          (then_built m (nodes c ++ nodes t) (nodes e) s ts es
-              (then_built m (nodes c) (nodes t) s cs ts (tree_built m c s) (tree_built m t cs))
-              (tree_built m e ts))
-          refl
+      (then_built m (nodes c ++ nodes t) (nodes e) s ts es
+      (then_built m (nodes c) (nodes t) s cs ts (tree_built m c s) (tree_built m t cs))
+      (tree_built m e ts))
+      refl
   tree_built m (bind bs l e) s =
       let vs : List (List Expr) = values m bs ++ s in
       let es : List (List Expr) = operands m e ∷ vs in
       then_built m (value_nodes bs ++ nodes e) (name_nodes bs) s es ((bound_in m bs (whole m (operands m e)) ∷ []) ∷ s)
-          (then_built m (value_nodes bs) (nodes e) s vs es (values_built m bs s) (tree_built m e vs))
-          (name_built m bs (operands m e) s)
+      (then_built m (value_nodes bs) (nodes e) s vs es (values_built m bs s) (tree_built m e vs))
+      (name_built m bs (operands m e) s)
 
   values_built : (m : Meaning) (bs : Bindings) (s : List (List Expr)) → built m (value_nodes bs) s ≡ values m bs ++ s
   values_built m (first k p w r l a) s = tree_built m a s

@@ -47,7 +47,7 @@ all_append es fs = counts_append false es fs
 made_count : (m : Meaning) (k : ConstructKind) (f : ExprForm) (es : List Expr) → count (made m k f es) ≡ suc (count_all es)
 made_count m k f es =
     ap (λ (n : Bool → Numbers). (n false).count)
-        (fold-roll-Expr (Bool → Numbers) numbers_with (record { construct = record { number = 0; line = m.line; kind = k }; deep = deep.No; form = f; parts = es }))
+    (fold-roll-Expr (Bool → Numbers) numbers_with (record { construct = record { number = 0; line = m.line; kind = k }; deep = deep.No; form = f; parts = es }))
 
 made_one : (m : Meaning) (k : ConstructKind) (f : ExprForm) (e : Expr) → count (made m k f (e ∷ [])) ≡ suc (count e)
 made_one m k f e = omega (arith, made_count m k f (e ∷ []))
@@ -61,16 +61,16 @@ out_count e = ap (λ (n : Bool → Numbers). (n false).count) (fold_out-Expr (Bo
 deepened_count : (e : Expr) → count (deepened e) ≡ count e
 deepened_count e =
     ap (λ (n : Bool → Numbers). (n false).count)
-        (fold-roll-Expr (Bool → Numbers) numbers_with
-            (record { construct = (out-Expr e).construct; deep = deep.Written; form = (out-Expr e).form; parts = (out-Expr e).parts }))
+    (fold-roll-Expr (Bool → Numbers) numbers_with
+    (record { construct = (out-Expr e).construct; deep = deep.Written; form = (out-Expr e).form; parts = (out-Expr e).parts }))
     ∙ sym (out_count e)
 
 part_count : (e p : Expr) → count (with_part e p) ≡ count e + count p
 part_count e p =
     let l : count (with_part e p) ≡ suc (count_all ((out-Expr e).parts ++ p ∷ [])) =
-        ap (λ (n : Bool → Numbers). (n false).count)
-            (fold-roll-Expr (Bool → Numbers) numbers_with
-                (record { construct = (out-Expr e).construct; deep = (out-Expr e).deep; form = (out-Expr e).form; parts = (out-Expr e).parts ++ p ∷ [] })) in
+    ap (λ (n : Bool → Numbers). (n false).count)
+    (fold-roll-Expr (Bool → Numbers) numbers_with
+    (record { construct = (out-Expr e).construct; deep = (out-Expr e).deep; form = (out-Expr e).form; parts = (out-Expr e).parts ++ p ∷ [] })) in
     omega (arith, l, out_count e, all_append (out-Expr e).parts (p ∷ []))
 
 joined_count : (m : Meaning) (o : Operator) (a b : Expr) → count (joined_by m o a b) ≡ suc (count a + count b)
@@ -144,12 +144,12 @@ mutual
   fewer m (called w p e) =
       let h = fewer m e in
       fewer_one m (call_of m p (operands m e)) (nodes e ++ node.Called p ∷ [])
-          (omega (arith, h.0, length_one (nodes e) (node.Called p), made_count m kind.Call (form.Call (called_function m p) any_type) (operands m e)))
+      (omega (arith, h.0, length_one (nodes e) (node.Called p), made_count m kind.Call (form.Call (called_function m p) any_type) (operands m e)))
   fewer m (filter b e) =
       let h = fewer m b in
       let k = fewer m e in
       fewer_one m (filtered m (takes_more b) (whole m (operands m b)) (whole m (operands m e))) (nodes b ++ nodes e ++ node.Filter (takes_more b) ∷ [])
-          (omega (arith, h.1, k.1, length_two (nodes b) (nodes e) (node.Filter (takes_more b)), filtered_count m (takes_more b) (whole m (operands m b)) (whole m (operands m e))))
+      (omega (arith, h.1, k.1, length_two (nodes b) (nodes e) (node.Filter (takes_more b)), filtered_count m (takes_more b) (whole m (operands m b)) (whole m (operands m e))))
   fewer m (comma a b) =
       let h = fewer m a in
       let k = fewer m b in
@@ -159,27 +159,34 @@ mutual
   fewer m (prefixed o e) =
       let h = fewer m e in
       fewer_one m (begun_by m o (whole m (operands m e))) (nodes e ++ node.Prefix o ∷ [])
-          (omega (arith, h.1, length_one (nodes e) (node.Prefix o), begun_count m o (whole m (operands m e))))
+      (omega (arith, h.1, length_one (nodes e) (node.Prefix o), begun_count m o (whole m (operands m e))))
   fewer m (binary a l o b) =
       let h = fewer m a in
       let k = fewer m b in
       fewer_one m (joined_by m o (whole m (operands m a)) (whole m (operands m b))) (nodes a ++ nodes b ++ node.Binary o ∷ [])
-          (omega (arith, h.1, k.1, length_two (nodes a) (nodes b) (node.Binary o), joined_count m o (whole m (operands m a)) (whole m (operands m b))))
+      (omega (arith, h.1, k.1, length_two (nodes a) (nodes b) (node.Binary o), joined_count m o (whole m (operands m a)) (whole m (operands m b))))
   fewer m (cast e k p q w r optional) =
       let h = fewer m e in
       fewer_one m (cast_by m k (type_at m r) optional (whole m (operands m e))) (nodes e ++ node.Cast k r optional ∷ [])
-          (omega (arith, h.1, length_one (nodes e) (node.Cast k r optional), cast_count m k (type_at m r) optional (whole m (operands m e))))
+      (omega (arith, h.1, length_one (nodes e) (node.Cast k r optional), cast_count m k (type_at m r) optional (whole m (operands m e))))
   fewer m (choice p c q t r e) =
       let h = fewer m c in
       let k = fewer m t in
       let l = fewer m e in
       fewer_one m (made m kind.If form.If (whole m (operands m c) ∷ whole m (operands m t) ∷ whole m (operands m e) ∷ [])) (nodes c ++ nodes t ++ nodes e ++ node.Choice ∷ [])
-          (omega (arith, h.1, k.1, l.1, length_two (nodes c ++ nodes t) (nodes e) node.Choice, length-append (nodes c) (nodes t),
-              made_count m kind.If form.If (whole m (operands m c) ∷ whole m (operands m t) ∷ whole m (operands m e) ∷ [])))
+      (omega (
+        arith,
+        h.1,
+        k.1,
+        l.1,
+        length_two (nodes c ++ nodes t) (nodes e) node.Choice,
+        length-append (nodes c) (nodes t),
+        made_count m kind.If form.If (whole m (operands m c) ∷ whole m (operands m t) ∷ whole m (operands m e) ∷ []),
+      ))
   fewer m (bind bs l e) =
       let h = fewer m e in
       fewer_one m (bound_in m bs (whole m (operands m e))) (value_nodes bs ++ nodes e ++ name_nodes bs)
-          (omega (arith, h.1, bound_fewer m bs (whole m (operands m e)), length-append (value_nodes bs ++ nodes e) (name_nodes bs), length-append (value_nodes bs) (nodes e)))
+      (omega (arith, h.1, bound_fewer m bs (whole m (operands m e)), length-append (value_nodes bs ++ nodes e) (name_nodes bs), length-append (value_nodes bs) (nodes e)))
 
   bound_fewer : (m : Meaning) (bs : Bindings) (e : Expr) → count (bound_in m bs e) ≤ 2 * length (value_nodes bs) + count e
   bound_fewer m (first k p w r l a) e =
@@ -187,8 +194,13 @@ mutual
       omega (arith, h.1, bound_count m k (number_at m r) (whole m (operands m a)) e)
   bound_fewer m (also bs w r l a) e =
       let h = fewer m a in
-      omega (arith, h.1, bound_count m (binder_of bs) (number_at m r) (whole m (operands m a)) e, length-append (value_nodes bs) (nodes a),
-          bound_fewer m bs (bound_by m (binder_of bs) (number_at m r) (whole m (operands m a)) e))
+      omega (
+        arith,
+        h.1,
+        bound_count m (binder_of bs) (number_at m r) (whole m (operands m a)) e,
+        length-append (value_nodes bs) (nodes a),
+        bound_fewer m bs (bound_by m (binder_of bs) (number_at m r) (whole m (operands m a)) e),
+      )
 
 -- an expression has fewer than twice as many constructs as its derivation has nodes
 pub count_by_nodes : (m : Meaning) (t : Tree) → suc (count (says m t)) ≤ 2 * length (nodes t)
@@ -219,30 +231,57 @@ mutual
   nodes_by_tokens (called w p e) =
       omega (arith, nodes_by_tokens e, length_one (nodes e) (node.Called p), length-append (tokens e) (lexeme.Mark mark.Close ∷ []))
   nodes_by_tokens (filter b e) =
-      omega (arith, nodes_by_tokens b, nodes_by_tokens e, length_two (nodes b) (nodes e) (node.Filter (takes_more b)),
-          length-append (tokens b ++ lexeme.Mark mark.OpenBracket ∷ tokens e) (lexeme.Mark mark.CloseBracket ∷ []),
-          length-append (tokens b) (lexeme.Mark mark.OpenBracket ∷ tokens e))
+      omega (
+        arith,
+        nodes_by_tokens b,
+        nodes_by_tokens e,
+        length_two (nodes b) (nodes e) (node.Filter (takes_more b)),
+        length-append (tokens b ++ lexeme.Mark mark.OpenBracket ∷ tokens e) (lexeme.Mark mark.CloseBracket ∷ []),
+        length-append (tokens b) (lexeme.Mark mark.OpenBracket ∷ tokens e),
+      )
   nodes_by_tokens (comma a b) =
       omega (arith, nodes_by_tokens a, nodes_by_tokens b, length_two (nodes a) (nodes b) node.Comma, length-append (tokens a) (lexeme.Mark mark.Comma ∷ tokens b))
   nodes_by_tokens (prefixed o e) = omega (arith, nodes_by_tokens e, length_one (nodes e) (node.Prefix o))
   nodes_by_tokens (binary a l o b) =
       omega (arith, nodes_by_tokens a, nodes_by_tokens b, length_two (nodes a) (nodes b) (node.Binary o), length-append (tokens a) (l ∷ tokens b))
   nodes_by_tokens (cast e k p q w r optional) =
-      omega (arith, nodes_by_tokens e, length_one (nodes e) (node.Cast k r optional),
-          length-append (tokens e) (lexeme.Name (word.Casting k) p ∷ lexeme.Name word.As q ∷ lexeme.Name w r ∷ question_tokens optional))
+      omega (
+        arith,
+        nodes_by_tokens e,
+        length_one (nodes e) (node.Cast k r optional),
+        length-append (tokens e) (lexeme.Name (word.Casting k) p ∷ lexeme.Name word.As q ∷ lexeme.Name w r ∷ question_tokens optional),
+      )
   nodes_by_tokens (choice p c q t r e) =
-      omega (arith, nodes_by_tokens c, nodes_by_tokens t, nodes_by_tokens e, length_two (nodes c ++ nodes t) (nodes e) node.Choice, length-append (nodes c) (nodes t),
-          length-append (tokens c) (lexeme.Mark mark.Close ∷ lexeme.Name word.Then q ∷ tokens t),
-          length-append (lexeme.Name word.If p ∷ lexeme.Mark mark.Open ∷ tokens c ++ lexeme.Mark mark.Close ∷ lexeme.Name word.Then q ∷ tokens t) (lexeme.Name word.Else r ∷ tokens e))
+      omega (
+        arith,
+        nodes_by_tokens c,
+        nodes_by_tokens t,
+        nodes_by_tokens e,
+        length_two (nodes c ++ nodes t) (nodes e) node.Choice,
+        length-append (nodes c) (nodes t),
+        length-append (tokens c) (lexeme.Mark mark.Close ∷ lexeme.Name word.Then q ∷ tokens t),
+        length-append (lexeme.Name word.If p ∷ lexeme.Mark mark.Open ∷ tokens c ++ lexeme.Mark mark.Close ∷ lexeme.Name word.Then q ∷ tokens t) (lexeme.Name word.Else r ∷ tokens e),
+      )
   nodes_by_tokens (bind bs l e) =
-      omega (arith, nodes_by_tokens e, names_by_tokens bs, length-append (value_nodes bs ++ nodes e) (name_nodes bs), length-append (value_nodes bs) (nodes e),
-          length-append (binding_tokens bs) (l ∷ tokens e))
+      omega (
+        arith,
+        nodes_by_tokens e,
+        names_by_tokens bs,
+        length-append (value_nodes bs ++ nodes e) (name_nodes bs),
+        length-append (value_nodes bs) (nodes e),
+        length-append (binding_tokens bs) (l ∷ tokens e),
+      )
 
   names_by_tokens : (bs : Bindings) → length (value_nodes bs) + length (name_nodes bs) ≤ length (binding_tokens bs)
   names_by_tokens (first k p w r l a) = omega (arith, nodes_by_tokens a)
   names_by_tokens (also bs w r l a) =
-      omega (arith, nodes_by_tokens a, names_by_tokens bs, length-append (value_nodes bs) (nodes a),
-          length-append (binding_tokens bs) (lexeme.Mark mark.Comma ∷ lexeme.Mark mark.Dollar ∷ lexeme.Name w r ∷ l ∷ tokens a))
+      omega (
+        arith,
+        nodes_by_tokens a,
+        names_by_tokens bs,
+        length-append (value_nodes bs) (nodes a),
+        length-append (binding_tokens bs) (lexeme.Mark mark.Comma ∷ lexeme.Mark mark.Dollar ∷ lexeme.Name w r ∷ l ∷ tokens a),
+      )
 
 -- an expression has fewer than twice as many constructs as its derivation has tokens
 pub count_by_tokens : (m : Meaning) (t : Tree) → suc (count (says m t)) ≤ 2 * length (tokens t)

@@ -28,8 +28,8 @@ pub mod Following
 pub mod Simulation
 pub mod Readings
 pub mod Built
-pub mod LiteralPlaces
 pub mod CutTemplates
 pub mod LiteralNodes
 pub mod Counted
 pub mod Unions
+pub mod Bounds

@@ -70,46 +70,46 @@ mutual
   literal_nodes m (filter b e) h =
       let k = front_of m (tokens b ++ lexeme.Mark mark.OpenBracket ∷ tokens e) (lexeme.Mark mark.CloseBracket ∷ []) h in
       nodes_two m (nodes b) (nodes e) (node.Filter (takes_more b))
-          (literal_nodes m b (front_of m (tokens b) (lexeme.Mark mark.OpenBracket ∷ tokens e) k))
-          (literal_nodes m e (back_of m (tokens b) (lexeme.Mark mark.OpenBracket ∷ tokens e) k).1)
-          tt
+      (literal_nodes m b (front_of m (tokens b) (lexeme.Mark mark.OpenBracket ∷ tokens e) k))
+      (literal_nodes m e (back_of m (tokens b) (lexeme.Mark mark.OpenBracket ∷ tokens e) k).1)
+      tt
   literal_nodes m (comma a b) h =
       nodes_two m (nodes a) (nodes b) node.Comma
-          (literal_nodes m a (front_of m (tokens a) (lexeme.Mark mark.Comma ∷ tokens b) h))
-          (literal_nodes m b (back_of m (tokens a) (lexeme.Mark mark.Comma ∷ tokens b) h).1)
-          tt
+      (literal_nodes m a (front_of m (tokens a) (lexeme.Mark mark.Comma ∷ tokens b) h))
+      (literal_nodes m b (back_of m (tokens a) (lexeme.Mark mark.Comma ∷ tokens b) h).1)
+      tt
   literal_nodes m (prefixed o e) h = nodes_one m (nodes e) (node.Prefix o) (literal_nodes m e h.1) tt
   literal_nodes m (binary a l o b) h =
       nodes_two m (nodes a) (nodes b) (node.Binary o)
-          (literal_nodes m a (front_of m (tokens a) (l ∷ tokens b) h))
-          (literal_nodes m b (back_of m (tokens a) (l ∷ tokens b) h).1)
-          tt
+      (literal_nodes m a (front_of m (tokens a) (l ∷ tokens b) h))
+      (literal_nodes m b (back_of m (tokens a) (l ∷ tokens b) h).1)
+      tt
   literal_nodes m (cast e k p q w r optional) h =
       nodes_one m (nodes e) (node.Cast k r optional)
-          (literal_nodes m e (front_of m (tokens e) (lexeme.Name (word.Casting k) p ∷ lexeme.Name word.As q ∷ lexeme.Name w r ∷ question_tokens optional) h))
-          tt
+      (literal_nodes m e (front_of m (tokens e) (lexeme.Name (word.Casting k) p ∷ lexeme.Name word.As q ∷ lexeme.Name w r ∷ question_tokens optional) h))
+      tt
   literal_nodes m (choice p c q t r e) h =
       let k = front_of m (tokens c ++ lexeme.Mark mark.Close ∷ lexeme.Name word.Then q ∷ tokens t) (lexeme.Name word.Else r ∷ tokens e) h.1.1 in
       let b = back_of m (tokens c ++ lexeme.Mark mark.Close ∷ lexeme.Name word.Then q ∷ tokens t) (lexeme.Name word.Else r ∷ tokens e) h.1.1 in
       nodes_two m (nodes c ++ nodes t) (nodes e) node.Choice
-          (nodes_append m (nodes c) (nodes t)
-              (literal_nodes m c (front_of m (tokens c) (lexeme.Mark mark.Close ∷ lexeme.Name word.Then q ∷ tokens t) k))
-              (literal_nodes m t (back_of m (tokens c) (lexeme.Mark mark.Close ∷ lexeme.Name word.Then q ∷ tokens t) k).1.1))
-          (literal_nodes m e b.1)
-          tt
+      (nodes_append m (nodes c) (nodes t)
+      (literal_nodes m c (front_of m (tokens c) (lexeme.Mark mark.Close ∷ lexeme.Name word.Then q ∷ tokens t) k))
+      (literal_nodes m t (back_of m (tokens c) (lexeme.Mark mark.Close ∷ lexeme.Name word.Then q ∷ tokens t) k).1.1))
+      (literal_nodes m e b.1)
+      tt
   literal_nodes m (bind bs l e) h =
       nodes_append m (value_nodes bs ++ nodes e) (name_nodes bs)
-          (nodes_append m (value_nodes bs) (nodes e)
-              (value_literals m bs (front_of m (binding_tokens bs) (l ∷ tokens e) h))
-              (literal_nodes m e (back_of m (binding_tokens bs) (l ∷ tokens e) h).1))
-          (names_plain m bs)
+      (nodes_append m (value_nodes bs) (nodes e)
+      (value_literals m bs (front_of m (binding_tokens bs) (l ∷ tokens e) h))
+      (literal_nodes m e (back_of m (binding_tokens bs) (l ∷ tokens e) h).1))
+      (names_plain m bs)
 
   value_literals : (m : Meaning) (bs : Bindings) → AreLiteralsOf m (binding_tokens bs) → AreLiteralsIn m (value_nodes bs)
   value_literals m (first k p w r l a) h = literal_nodes m a h.1.1.1.1
   value_literals m (also bs w r l a) h =
       nodes_append m (value_nodes bs) (nodes a)
-          (value_literals m bs (front_of m (binding_tokens bs) (lexeme.Mark mark.Comma ∷ lexeme.Mark mark.Dollar ∷ lexeme.Name w r ∷ l ∷ tokens a) h))
-          (literal_nodes m a (back_of m (binding_tokens bs) (lexeme.Mark mark.Comma ∷ lexeme.Mark mark.Dollar ∷ lexeme.Name w r ∷ l ∷ tokens a) h).1.1.1.1)
+      (value_literals m bs (front_of m (binding_tokens bs) (lexeme.Mark mark.Comma ∷ lexeme.Mark mark.Dollar ∷ lexeme.Name w r ∷ l ∷ tokens a) h))
+      (literal_nodes m a (back_of m (binding_tokens bs) (lexeme.Mark mark.Comma ∷ lexeme.Mark mark.Dollar ∷ lexeme.Name w r ∷ l ∷ tokens a) h).1.1.1.1)
 
 -- ---- the tokens of a text
 

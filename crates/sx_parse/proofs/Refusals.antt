@@ -19,7 +19,7 @@ use Rattle.sx_parse.proofs.Parallel.{parallel}
 
 -- ---- how many tokens there are
 
-as_many : (text : List ℕ) (ts : List Token) (place : ℕ) → length (lexemes_from place text ts) ≡ length ts
+pub as_many : (text : List ℕ) (ts : List Token) (place : ℕ) → length (lexemes_from place text ts) ≡ length ts
 as_many text [] place = refl
 as_many text (t ∷ ts) place = ap suc (as_many text ts (suc place))
 
@@ -106,6 +106,7 @@ sound_text p scope text ts ls given said h r e = record {
   nodes_are = r.nodes_are;
   roles_are = r.roles_are;
   parts = h.parts;
+  few = h.few;
 }
 
 -- ---- by cases

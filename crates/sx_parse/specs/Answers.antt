@@ -111,3 +111,7 @@ too_long = record { code = code.Sxst0001; offset = most_bytes }
 -- why a text is refused: it is too long, or else it can't be read
 abbrev pub IsFaulty : Bool → Bindings → List ℕ → SyntaxFault → Type 0
 IsFaulty p scope text fault = ((most_bytes < length text) × (fault ≡ too_long)) ⊎ ((length text ≤ most_bytes) × IsRefused p scope text fault)
+
+-- whether a text has too many bytes
+abbrev pub is_too_long : List ℕ → Bool
+is_too_long text = nat_lt most_bytes (length text)

@@ -1,5 +1,5 @@
 -- What the calls of this crate answer.
-use Rattle.std.specs.Prelude.{◌≡◌, ℕ, suc, ◌+◌, ◌<◌, ◌≤◌, ◌⊎◌, false, true, List, [], ◌∷◌, ◌++◌, length}
+use Rattle.std.specs.Prelude.{◌≡◌, ℕ, suc, ◌+◌, ◌<◌, ◌≤◌, ◌⊎◌, false, true, List, [], ◌∷◌, ◌++◌, length, map}
 use Rattle.sx_kinds.specs.declared.constructs.Construct.{Construct}
 use Rattle.sx_kinds.specs.declared.constructs.ConstructKind.TheVariants as kind
 use Rattle.sx_kinds.specs.declared.expressions.AvtPart.{AvtPart}
@@ -14,7 +14,7 @@ use Rattle.sx_parse.specs.declared.roles.Role.{Role}
 use Rattle.sx_parse.specs.Answers.{IsRead, IsRefused, meaning, names_with, too_long}
 use Rattle.sx_parse.specs.Checks.{Bindings, most_bytes}
 use Rattle.sx_parse.specs.Grammar.{Tree}
-use Rattle.sx_parse.specs.Numbered.{count, numbered, step_count, numbered_steps}
+use Rattle.sx_parse.specs.Numbered.{count, counts, in_order, numbered, numbers_in}
 use Rattle.sx_parse.specs.Nodes.{nodes}
 use Rattle.sx_parse.specs.Numbers.{Name}
 use Rattle.sx_parse.specs.Roles.{roles}
@@ -41,30 +41,25 @@ pub record IsExpression (scope : Bindings) (text : List ℕ) (old new : List Nam
   pub is : IsSaid scope text at.line old at.next new after.next e
   pub line : after.line ≡ at.line
 
--- the alternatives of a pattern, each numbered behind the one before it
-abbrev pub numbered_all : ℕ → List Expr → List Expr
-numbered_all n [] = []
-numbered_all n (e ∷ es) = numbered_steps n e ∷ numbered_all (n + step_count e) es
-
-abbrev pub count_all : List Expr → ℕ
-count_all [] = 0
-count_all (e ∷ es) = step_count e + count_all es
-
 -- the construct of a pattern
 abbrev pub pattern_at : Numbering → Construct
 pattern_at at = record { number = at.next; line = at.line; kind = kind.Pattern }
 
--- the answer for a pattern
-pub record IsPattern (scope : Bindings) (text : List ℕ) (old new : List Name) (at after : Numbering) (q : Pattern) : Type 0 where
-  pub within : length text ≤ most_bytes
+-- a text is read as this pattern, its constructs numbered from a number on, and its names are added to these
+pub record IsPatternOf (scope : Bindings) (text : List ℕ) (old new : List Name) (at after : Numbering) (q : Pattern) : Type 0 where
   pub tokens : List Token
   pub tree : Tree
   pub is : IsRead true scope text tokens tree
   pub names : new ≡ names_with scope text tokens tree old
   pub construct : q.construct ≡ pattern_at at
-  pub alternatives_are : q.alternatives ≡ numbered_all (suc at.next) (alternatives (meaning scope text tokens tree new at.line) tree)
-  pub next : after.next ≡ suc (at.next + count_all (alternatives (meaning scope text tokens tree new at.line) tree))
+  pub alternatives_are : q.alternatives ≡ in_order true (suc at.next) (map numbers_in (alternatives (meaning scope text tokens tree new at.line) tree))
+  pub next : after.next ≡ suc at.next + counts true (map numbers_in (alternatives (meaning scope text tokens tree new at.line) tree))
   pub line : after.line ≡ at.line
+
+-- the answer for a pattern
+pub record IsPattern (scope : Bindings) (text : List ℕ) (old new : List Name) (at after : Numbering) (q : Pattern) : Type 0 where
+  pub within : length text ≤ most_bytes
+  pub is : IsPatternOf scope text old new at after q
 
 -- ---- value templates
 

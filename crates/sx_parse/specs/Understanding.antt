@@ -1,5 +1,5 @@
 -- A text that was read, with what its reading left.
-use Rattle.std.specs.Prelude.{◌≡◌, ℕ, Bool, List, Option, Some, None}
+use Rattle.std.specs.Prelude.{◌≡◌, ℕ, ◌≤◌, Bool, List, length, Option, Some, None}
 use Rattle.sx_lex.specs.declared.kinds.Token.{Token}
 use Rattle.sx_parse.specs.declared.nodes.Node.{Node}
 use Rattle.sx_parse.specs.declared.roles.Role.{Role}
@@ -17,6 +17,7 @@ pub record IsUnderstood (p : Bool) (scope : Bindings) (text : List ℕ) (ts : Li
   pub nodes_are : given ≡ nodes tree
   pub roles_are : said ≡ roles 0 tree
   pub parts : AreParts text ts
+  pub few : length ts ≤ length text
 
 -- the number of the token at which reading stops, by that at which no reading goes on, or else by the break behind the last token
 abbrev pub stop_of : Option ℕ → Option ℕ → ℕ → Option ℕ

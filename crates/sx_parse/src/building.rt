@@ -30,18 +30,45 @@ fn any_type() -> Ty
 }
 
 /// Two operands with an operator between.
-fn joined_by(alloc: Global, words: &Wording, operator: Operator, a: Expr, b: Expr) -> Result<Expr, AllocError>
+fn joined_by(
+    alloc: Global,
+    words: &Wording,
+    operator: Operator,
+    a: Expr,
+    b: Expr,
+) -> Result<Expr, AllocError>
     ensures { IfOk result (λ e. e ≡ spec.joined_by (meaning_of words.now) operator a b) }
 {
     match operator {
         Operator::Or => made_of_two(alloc, words, ConstructKind::Or, ExprForm::Or, a, b),
         Operator::And => made_of_two(alloc, words, ConstructKind::And, ExprForm::And, a, b),
         Operator::Compare { op, general } => {
-            made_of_two(alloc, words, ConstructKind::Compare, ExprForm::Compare { op, general }, a, b)
+            made_of_two(
+                alloc,
+                words,
+                ConstructKind::Compare,
+                ExprForm::Compare { op, general },
+                a,
+                b,
+            )
         }
-        Operator::Concat => made_of_two(alloc, words, ConstructKind::Concat, ExprForm::Concat, a, b),
+        Operator::Concat => made_of_two(
+            alloc,
+            words,
+            ConstructKind::Concat,
+            ExprForm::Concat,
+            a,
+            b,
+        ),
         Operator::Range => made_of_two(alloc, words, ConstructKind::Range, ExprForm::Range, a, b),
-        Operator::Arith(op) => made_of_two(alloc, words, ConstructKind::Arith, ExprForm::Arith(op), a, b),
+        Operator::Arith(op) => made_of_two(
+            alloc,
+            words,
+            ConstructKind::Arith,
+            ExprForm::Arith(op),
+            a,
+            b,
+        ),
         Operator::Union => made_of_two(alloc, words, ConstructKind::Union, ExprForm::Union, a, b),
         Operator::Map => made_of_two(alloc, words, ConstructKind::Map, ExprForm::Map, a, b),
         Operator::Slash => path(alloc, words, a, b),
@@ -53,7 +80,14 @@ fn joined_by(alloc: Global, words: &Wording, operator: Operator, a: Expr, b: Exp
 fn path(alloc: Global, words: &Wording, a: Expr, b: Expr) -> Result<Expr, AllocError>
     ensures { IfOk result (λ e. e ≡ spec.made (meaning_of words.now) ConstructKind.Path (ExprForm.Path false) (a ∷ b ∷ [])) }
 {
-    made_of_two(alloc, words, ConstructKind::Path, ExprForm::Path { per_item: false }, a, b)
+    made_of_two(
+        alloc,
+        words,
+        ConstructKind::Path,
+        ExprForm::Path { per_item: false },
+        a,
+        b,
+    )
 }
 
 fn root(alloc: Global, words: &Wording) -> Expr
@@ -70,37 +104,109 @@ fn begun_by(alloc: Global, words: &Wording, operator: Operator, e: Expr) -> Resu
         Operator::Slash => path(alloc, words, root(alloc, words), e),
         Operator::DoubleSlash => path(alloc, words, root(alloc, words), deepened(e)),
         Operator::Arith(ArithOp::Sub) => {
-            made_of_one(alloc, words, ConstructKind::Unary, ExprForm::Unary { minus: true }, e)
+            made_of_one(
+                alloc,
+                words,
+                ConstructKind::Unary,
+                ExprForm::Unary { minus: true },
+                e,
+            )
         }
-        _ => made_of_one(alloc, words, ConstructKind::Unary, ExprForm::Unary { minus: false }, e),
+        _ => made_of_one(
+            alloc,
+            words,
+            ConstructKind::Unary,
+            ExprForm::Unary { minus: false },
+            e,
+        ),
     }
 }
 
-fn cast_by(alloc: Global, words: &Wording, casting: Casting, to: AtomType, optional: bool, e: Expr) -> Result<Expr, AllocError>
+fn cast_by(
+    alloc: Global,
+    words: &Wording,
+    casting: Casting,
+    to: AtomType,
+    optional: bool,
+    e: Expr,
+) -> Result<Expr, AllocError>
     ensures { IfOk result (λ c. c ≡ spec.cast_by (meaning_of words.now) casting to optional e) }
 {
     match casting {
         Casting::Castable => {
-            made_of_one(alloc, words, ConstructKind::Castable, ExprForm::Castable { to, optional }, e)
+            made_of_one(
+                alloc,
+                words,
+                ConstructKind::Castable,
+                ExprForm::Castable { to, optional },
+                e,
+            )
         }
-        Casting::Cast => made_of_one(alloc, words, ConstructKind::Cast, ExprForm::Cast { to, optional }, e),
+        Casting::Cast => made_of_one(
+            alloc,
+            words,
+            ConstructKind::Cast,
+            ExprForm::Cast { to, optional },
+            e,
+        ),
     }
 }
 
 /// A variable with its value, and what it is used in.
-fn bound_by(alloc: Global, words: &Wording, binder: Binder, name: u64, a: Expr, e: Expr) -> Result<Expr, AllocError>
+fn bound_by(
+    alloc: Global,
+    words: &Wording,
+    binder: Binder,
+    name: u64,
+    a: Expr,
+    e: Expr,
+) -> Result<Expr, AllocError>
     ensures { IfOk result (λ b. b ≡ spec.bound_by (meaning_of words.now) binder name a e) }
 {
     match binder {
-        Binder::For => made_of_two(alloc, words, ConstructKind::For, ExprForm::For { name }, a, e),
-        Binder::Let => made_of_two(alloc, words, ConstructKind::Let, ExprForm::Let { name }, a, e),
-        Binder::Some => made_of_two(alloc, words, ConstructKind::Some, ExprForm::Some { name }, a, e),
-        Binder::Every => made_of_two(alloc, words, ConstructKind::Every, ExprForm::Every { name }, a, e),
+        Binder::For => made_of_two(
+            alloc,
+            words,
+            ConstructKind::For,
+            ExprForm::For { name },
+            a,
+            e,
+        ),
+        Binder::Let => made_of_two(
+            alloc,
+            words,
+            ConstructKind::Let,
+            ExprForm::Let { name },
+            a,
+            e,
+        ),
+        Binder::Some => made_of_two(
+            alloc,
+            words,
+            ConstructKind::Some,
+            ExprForm::Some { name },
+            a,
+            e,
+        ),
+        Binder::Every => made_of_two(
+            alloc,
+            words,
+            ConstructKind::Every,
+            ExprForm::Every { name },
+            a,
+            e,
+        ),
     }
 }
 
 /// What is filtered, with one more predicate.
-fn filtered(alloc: Global, words: &Wording, more: bool, b: Expr, e: Expr) -> Result<Expr, AllocError>
+fn filtered(
+    alloc: Global,
+    words: &Wording,
+    more: bool,
+    b: Expr,
+    e: Expr,
+) -> Result<Expr, AllocError>
     ensures { IfOk result (λ f. f ≡ spec.filtered (meaning_of words.now) more b e) }
 {
     if more {
@@ -126,7 +232,13 @@ fn call(words: &Wording, place: u32, arguments: Exprs) -> Expr
     )
 }
 
-fn choice(alloc: Global, words: &Wording, test: Expr, then: Expr, otherwise: Expr) -> Result<Expr, AllocError>
+fn choice(
+    alloc: Global,
+    words: &Wording,
+    test: Expr,
+    then: Expr,
+    otherwise: Expr,
+) -> Result<Expr, AllocError>
     ensures { IfOk result (λ e. e ≡ spec.made (meaning_of words.now) ConstructKind.If ExprForm.If (test ∷ then ∷ otherwise ∷ [])) }
 {
     let mut parts = two(alloc, test, then)?;
@@ -140,7 +252,12 @@ fn literal(alloc: Global, words: &Wording, place: u32) -> Result<Expr, AllocErro
     ensures { IfOk result (λ e. e ≡ spec.made (meaning_of words.now) ConstructKind.LiteralValue (ExprForm.Literal (spec.literal_atom (meaning_of words.now) place)) []) }
 {
     let atom = words.literal_atom(alloc, place)?;
-    Ok(made_of_none(alloc, words, ConstructKind::LiteralValue, ExprForm::Literal(atom)))
+    Ok(made_of_none(
+        alloc,
+        words,
+        ConstructKind::LiteralValue,
+        ExprForm::Literal(atom),
+    ))
 }
 
 fn variable(alloc: Global, words: &Wording, place: u32) -> Expr
@@ -151,7 +268,12 @@ fn variable(alloc: Global, words: &Wording, place: u32) -> Expr
     made_of_none(alloc, words, ConstructKind::Var, ExprForm::Var { name, ty })
 }
 
-fn put_called(alloc: Global, words: &Wording, place: u32, stack: &mut Operands) -> Result<(), AllocError>
+fn put_called(
+    alloc: Global,
+    words: &Wording,
+    place: u32,
+    stack: &mut Operands,
+) -> Result<(), AllocError>
     requires { IsCut words.now }
     ensures { OnOk result (stack.new ≡ stack_of.put (meaning_of words.now) (Node.Called place) stack.old) }
 {
@@ -166,14 +288,26 @@ fn put_parens(alloc: Global, words: &Wording, stack: &mut Operands) -> Result<()
     stack.put(alloc, e)
 }
 
-fn put_prefix(alloc: Global, words: &Wording, operator: Operator, stack: &mut Operands) -> Result<(), AllocError>
+fn put_prefix(
+    alloc: Global,
+    words: &Wording,
+    operator: Operator,
+    stack: &mut Operands,
+) -> Result<(), AllocError>
     ensures { OnOk result (stack.new ≡ stack_of.put (meaning_of words.now) (Node.Prefix operator) stack.old) }
 {
     let e = stack.take(alloc, words);
     stack.put(alloc, begun_by(alloc, words, operator, e)?)
 }
 
-fn put_cast(alloc: Global, words: &Wording, casting: Casting, to: u32, optional: bool, stack: &mut Operands) -> Result<(), AllocError>
+fn put_cast(
+    alloc: Global,
+    words: &Wording,
+    casting: Casting,
+    to: u32,
+    optional: bool,
+    stack: &mut Operands,
+) -> Result<(), AllocError>
     requires { IsCut words.now }
     ensures { OnOk result (stack.new ≡ stack_of.put (meaning_of words.now) (Node.Cast casting to optional) stack.old) }
 {
@@ -182,7 +316,12 @@ fn put_cast(alloc: Global, words: &Wording, casting: Casting, to: u32, optional:
     stack.put(alloc, cast_by(alloc, words, casting, named, optional, e)?)
 }
 
-fn put_filter(alloc: Global, words: &Wording, more: bool, stack: &mut Operands) -> Result<(), AllocError>
+fn put_filter(
+    alloc: Global,
+    words: &Wording,
+    more: bool,
+    stack: &mut Operands,
+) -> Result<(), AllocError>
     ensures { OnOk result (stack.new ≡ stack_of.put (meaning_of words.now) (Node.Filter more) stack.old) }
 {
     let predicate = stack.take(alloc, words);
@@ -199,7 +338,12 @@ fn put_comma(alloc: Global, words: &Wording, stack: &mut Operands) -> Result<(),
     stack.put_list(operands)
 }
 
-fn put_binary(alloc: Global, words: &Wording, operator: Operator, stack: &mut Operands) -> Result<(), AllocError>
+fn put_binary(
+    alloc: Global,
+    words: &Wording,
+    operator: Operator,
+    stack: &mut Operands,
+) -> Result<(), AllocError>
     ensures { OnOk result (stack.new ≡ stack_of.put (meaning_of words.now) (Node.Binary operator) stack.old) }
 {
     let b = stack.take(alloc, words);
@@ -216,7 +360,13 @@ fn put_choice(alloc: Global, words: &Wording, stack: &mut Operands) -> Result<()
     stack.put(alloc, choice(alloc, words, test, then, otherwise)?)
 }
 
-fn put_bind(alloc: Global, words: &Wording, binder: Binder, place: u32, stack: &mut Operands) -> Result<(), AllocError>
+fn put_bind(
+    alloc: Global,
+    words: &Wording,
+    binder: Binder,
+    place: u32,
+    stack: &mut Operands,
+) -> Result<(), AllocError>
     ensures { OnOk result (stack.new ≡ stack_of.put (meaning_of words.now) (Node.Bind binder place) stack.old) }
 {
     let e = stack.take(alloc, words);
@@ -233,12 +383,18 @@ fn put(alloc: Global, words: &Wording, node: Node, stack: &mut Operands) -> Resu
 {
     match node {
         Node::Literal(place) => stack.put(alloc, literal(alloc, words, place)?),
-        Node::Dot => stack.put(alloc, made_of_none(alloc, words, ConstructKind::Dot, ExprForm::Dot)),
+        Node::Dot => stack.put(
+            alloc,
+            made_of_none(alloc, words, ConstructKind::Dot, ExprForm::Dot),
+        ),
         Node::Parent => stack.put(alloc, step_on(alloc, words, Axis::Parent, NodeTest::Node)),
         Node::Root => stack.put(alloc, root(alloc, words)),
         Node::Variable(place) => stack.put(alloc, variable(alloc, words, place)),
         Node::Step(prefix, test) => stack.put(alloc, step(alloc, words, prefix, test)?),
-        Node::Empty => stack.put(alloc, made_of_none(alloc, words, ConstructKind::Empty, ExprForm::Empty)),
+        Node::Empty => stack.put(
+            alloc,
+            made_of_none(alloc, words, ConstructKind::Empty, ExprForm::Empty),
+        ),
         Node::Parens => put_parens(alloc, words, stack),
         Node::Call(place) => stack.put(alloc, call(words, place, Items::new(alloc))),
         Node::Called(place) => put_called(alloc, words, place, stack),
@@ -246,7 +402,11 @@ fn put(alloc: Global, words: &Wording, node: Node, stack: &mut Operands) -> Resu
         Node::Comma => put_comma(alloc, words, stack),
         Node::Prefix(operator) => put_prefix(alloc, words, operator, stack),
         Node::Binary(operator) => put_binary(alloc, words, operator, stack),
-        Node::Cast { casting, to, optional } => put_cast(alloc, words, casting, to, optional, stack),
+        Node::Cast {
+            casting,
+            to,
+            optional,
+        } => put_cast(alloc, words, casting, to, optional, stack),
         Node::Choice => put_choice(alloc, words, stack),
         Node::Bind(binder, place) => put_bind(alloc, words, binder, place, stack),
     }

@@ -54,7 +54,14 @@ pub(crate) fn made(words: &Wording, kind: ConstructKind, form: ExprForm, parts: 
 }
 
 /// An expression of two parts.
-pub(crate) fn made_of_two(alloc: Global, words: &Wording, kind: ConstructKind, form: ExprForm, a: Expr, b: Expr) -> Result<Expr, AllocError>
+pub(crate) fn made_of_two(
+    alloc: Global,
+    words: &Wording,
+    kind: ConstructKind,
+    form: ExprForm,
+    a: Expr,
+    b: Expr,
+) -> Result<Expr, AllocError>
     ensures { IfOk result (λ e. e ≡ spec.made (meaning_of words.now) kind form (a ∷ b ∷ [])) }
 {
     Ok(made(words, kind, form, two(alloc, a, b)?))
@@ -64,7 +71,12 @@ pub(crate) fn made_of_two(alloc: Global, words: &Wording, kind: ConstructKind, f
 pub(crate) fn deepened(expr: Expr) -> Expr
     ensures { result ≡ spec.deepened expr }
 {
-    let Expr { construct, deep: _, form, parts } = expr;
+    let Expr {
+        construct,
+        deep: _,
+        form,
+        parts,
+    } = expr;
     Expr {
         construct,
         deep: Deep::Written,
@@ -77,9 +89,19 @@ pub(crate) fn deepened(expr: Expr) -> Expr
 pub(crate) fn with_part(expr: Expr, part: Expr) -> Result<Expr, AllocError>
     ensures { IfOk result (λ e. e ≡ spec.with_part expr part) }
 {
-    let Expr { construct, deep, form, mut parts } = expr;
+    let Expr {
+        construct,
+        deep,
+        form,
+        mut parts,
+    } = expr;
     parts.push(part)?;
-    Ok(Expr { construct, deep, form, parts })
+    Ok(Expr {
+        construct,
+        deep,
+        form,
+        parts,
+    })
 }
 
 /// Operands that commas join: one alone is itself.
@@ -95,14 +117,25 @@ pub(crate) fn whole(words: &Wording, mut operands: Exprs) -> Expr
 }
 
 /// An expression of one part.
-pub(crate) fn made_of_one(alloc: Global, words: &Wording, kind: ConstructKind, form: ExprForm, a: Expr) -> Result<Expr, AllocError>
+pub(crate) fn made_of_one(
+    alloc: Global,
+    words: &Wording,
+    kind: ConstructKind,
+    form: ExprForm,
+    a: Expr,
+) -> Result<Expr, AllocError>
     ensures { IfOk result (λ e. e ≡ spec.made (meaning_of words.now) kind form (a ∷ [])) }
 {
     Ok(made(words, kind, form, one(alloc, a)?))
 }
 
 /// An expression without parts.
-pub(crate) fn made_of_none(alloc: Global, words: &Wording, kind: ConstructKind, form: ExprForm) -> Expr
+pub(crate) fn made_of_none(
+    alloc: Global,
+    words: &Wording,
+    kind: ConstructKind,
+    form: ExprForm,
+) -> Expr
     ensures { result ≡ spec.made (meaning_of words.now) kind form [] }
 {
     made(words, kind, form, Items::new(alloc))

@@ -36,4 +36,6 @@ mod tests;
 mod token_tests;
 mod words;
 
+pub use expressions::parse_expr;
 pub use faults::{Numbering, SyntaxFault};
+pub use patterns::parse_pattern;

@@ -19,7 +19,11 @@ pub(crate) fn number(alloc: Global, expr: Expr, at: &mut Numbering) -> Result<Ex
 }
 
 /// An alternative of a pattern: the constructs in its predicates are numbered, and its steps are not (XSLT 3.0, 5.5).
-pub(crate) fn number_steps(alloc: Global, expr: Expr, at: &mut Numbering) -> Result<Expr, AllocError>
+pub(crate) fn number_steps(
+    alloc: Global,
+    expr: Expr,
+    at: &mut Numbering,
+) -> Result<Expr, AllocError>
     requires { at.old.next + step_count expr < 2 ^ 64 }
     ensures expr { IfOk result (λ e. e ≡ numbered_steps at.old.next expr) }
     ensures next { OnOk result (at.new.next ≡ at.old.next + step_count expr) }
@@ -36,25 +40,53 @@ fn is_a_path(form: &ExprForm) -> bool
 
 // An expression; outside predicates, where it is a part of a pattern there.
 #[cycle(numbering)]
-fn number_in(alloc: Global, expr: Expr, outside: bool, at: &mut Numbering) -> Result<Expr, AllocError>
+fn number_in(
+    alloc: Global,
+    expr: Expr,
+    outside: bool,
+    at: &mut Numbering,
+) -> Result<Expr, AllocError>
     requires { at.old.next + (numbers_in expr outside).count < 2 ^ 64 }
     ensures expr { IfOk result (λ e. e ≡ (numbers_in expr outside).from at.old.next) }
     ensures next { OnOk result (at.new.next ≡ at.old.next + (numbers_in expr outside).count) }
     ensures line { at.new.line ≡ at.old.line }
 {
-    let Expr { construct, deep, form, parts } = expr;
+    let Expr {
+        construct,
+        deep,
+        form,
+        parts,
+    } = expr;
     if outside {
         let parts = number_parts(alloc, parts, is_a_path(&form), at)?;
-        return Ok(Expr { construct, deep, form, parts });
+        return Ok(Expr {
+            construct,
+            deep,
+            form,
+            parts,
+        });
     }
-    let construct = Construct { number: at.next, ..construct };
+    let construct = Construct {
+        number: at.next,
+        ..construct
+    };
     at.next += 1;
     let parts = number_parts(alloc, parts, false, at)?;
-    Ok(Expr { construct, deep, form, parts })
+    Ok(Expr {
+        construct,
+        deep,
+        form,
+        parts,
+    })
 }
 
 #[cycle(numbering)]
-fn number_parts(alloc: Global, parts: Exprs, outside: bool, at: &mut Numbering) -> Result<Exprs, AllocError>
+pub(crate) fn number_parts(
+    alloc: Global,
+    parts: Exprs,
+    outside: bool,
+    at: &mut Numbering,
+) -> Result<Exprs, AllocError>
     requires { at.old.next + counts outside (map numbers_in parts) < 2 ^ 64 }
     ensures exprs { IfOk result (λ es. es ≡ in_order outside at.old.next (map numbers_in parts)) }
     ensures next { OnOk result (at.new.next ≡ at.old.next + counts outside (map numbers_in parts)) }

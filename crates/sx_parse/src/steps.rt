@@ -16,15 +16,30 @@ use sx_tree::{Axis, Chars, NodeTest};
 pub(crate) fn step_on(alloc: Global, words: &Wording, axis: Axis, test: NodeTest) -> Expr
     ensures { result ≡ spec.step_of (meaning_of words.now) axis test }
 {
-    made_of_none(alloc, words, ConstructKind::Step, ExprForm::Step { axis, test })
+    made_of_none(
+        alloc,
+        words,
+        ConstructKind::Step,
+        ExprForm::Step { axis, test },
+    )
 }
 
 /// A step.
-pub(crate) fn step(alloc: Global, words: &Wording, prefix: StepPrefix, test: Test) -> Result<Expr, AllocError>
+pub(crate) fn step(
+    alloc: Global,
+    words: &Wording,
+    prefix: StepPrefix,
+    test: Test,
+) -> Result<Expr, AllocError>
     requires { IsCut words.now }
     ensures { IfOk result (λ e. e ≡ spec.step_of (meaning_of words.now) (spec.step_axis prefix test) (spec.node_test_of (meaning_of words.now) test)) }
 {
-    Ok(step_on(alloc, words, step_axis(prefix, test), node_test(alloc, words, test)?))
+    Ok(step_on(
+        alloc,
+        words,
+        step_axis(prefix, test),
+        node_test(alloc, words, test)?,
+    ))
 }
 
 // The axis of a step: without one, `child`, or `attribute` for the test of an attribute.
@@ -98,7 +113,12 @@ fn kind_test(kind: KindWord) -> NodeTest
     }
 }
 
-fn named_kind_test(alloc: Global, words: &Wording, kind: KindWord, place: u32) -> Result<NodeTest, AllocError>
+fn named_kind_test(
+    alloc: Global,
+    words: &Wording,
+    kind: KindWord,
+    place: u32,
+) -> Result<NodeTest, AllocError>
     requires { IsCut words.now }
     ensures { IfOk result (λ t. t ≡ spec.named_kind_test (meaning_of words.now) kind place) }
 {

@@ -13,7 +13,7 @@ returns c = λ t h.
     let rest = drop_all c.loop-node.node-index c.args.nodes.now (omega arith) in
     c.take_list.ensures.value
     ∙ ap top
-        (sym (ap (λ (ns : List Node). built m ns c.loop-node.stack) rest)
-        ∙ c.loop-node.invariant.stack
-        ∙ ap (λ (ns : List Node). built m ns []) h
-        ∙ tree_built m t [])
+    (sym (ap (λ (ns : List Node). built m ns c.loop-node.stack) rest)
+    ∙ c.loop-node.invariant.stack
+    ∙ ap (λ (ns : List Node). built m ns []) h
+    ∙ tree_built m t [])

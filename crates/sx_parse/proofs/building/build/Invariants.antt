@@ -7,5 +7,5 @@ use Rattle.sx_parse.proofs.building.build.Given as goal
 abbrev pub invariant-loop-node : goal.invariant-loop-node
 invariant-loop-node l = record {
   stack : built (meaning_of l.words) (drop l.node-index l.nodes) l.stack ≡ built (meaning_of l.words) l.nodes [];
-  literals : AreLiteralsIn (meaning_of l.words) (drop l.node-index l.nodes)
+  literals : AreLiteralsIn (meaning_of l.words) (drop l.node-index l.nodes);
 }

@@ -8,7 +8,7 @@ invariant-number_parts-loop-part l = record {
   exprs : l.done ++ in_order l.outside l.at.next (map numbers_in (reverse l.left)) ≡ in_order l.outside l.fn.at.next (map numbers_in l.fn.parts);
   next : l.at.next + counts l.outside (map numbers_in (reverse l.left)) ≡ l.fn.at.next + counts l.outside (map numbers_in l.fn.parts);
   line : l.at.line ≡ l.fn.at.line;
-  size : counts false (map numbers_in (reverse l.left)) ≤ counts false (map numbers_in l.fn.parts)
+  size : counts false (map numbers_in (reverse l.left)) ≤ counts false (map numbers_in l.fn.parts);
 }
 
 abbrev pub decreases-number_parts-loop-part : goal.decreases-number_parts-loop-part

@@ -1,7 +1,14 @@
-use Rattle.std.proofs.Common.{rules, sym, ◌∙◌, ap}
-use Rattle.sx_parse.proofs.Refusals.{refused_first, refused_there, read_whole, stop_within}
+use Rattle.std.proofs.Common.{rules, length, sym, ◌∙◌, ap, arith}
+use Rattle.sx_parse.proofs.Refusals.{few_lexemes, refused_first, refused_there, read_whole, stop_within}
 use Rattle.sx_parse.proofs.parsing.understand.Goals as goal
 use Rattle.sx_parse.proofs.parsing.understand.Goals.{in-Some-default, in-None-Some, in-None-None}
+
+pub read-requires : goal.read-requires
+read-requires c =
+    let few = few_lexemes c.args.text.now c.in_ok-lexed.lexed.tokens c.in_ok-lexed.lexed.lexemes c.in_ok-lexed.lexed.stop c.in_ok-lexed.ensures in
+    let same = ap length c.as_slice.ensures in
+    let short = c.requires in
+    omega (arith, few, same, short)
 
 pub fault_in-requires-clause-within : goal.fault_in-requires-clause-within
 fault_in-requires-clause-within c =

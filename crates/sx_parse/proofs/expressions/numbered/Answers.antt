@@ -1,0 +1,19 @@
+use Rattle.std.proofs.Common.{rules, arith}
+use Rattle.sx_parse.proofs.Bounds.{few_constructs, on_ok}
+use Rattle.sx_parse.proofs.expressions.numbered.Goals as goal
+
+pub number-requires : goal.number-requires
+number-requires c =
+    let u = c.requires.understood in
+    let says = c.in_ok-expr.ensures.says u.tree u.nodes_are u.roles_are in
+    let few = few_constructs _ _ _ _ _ _ u _ c.in_ok-expr.expr says.1 in
+    let room = c.requires.room in
+    let short = c.requires.short in
+    omega (arith, few, room, short)
+
+pub returns-clause-grows : goal.returns-clause-grows
+returns-clause-grows c =
+    let u = c.requires.understood in
+    let says = c.in_ok-expr.ensures.says u.tree u.nodes_are u.roles_are in
+    let few = few_constructs _ _ _ _ _ _ u _ c.in_ok-expr.expr says.1 in
+    on_ok c.number.result (λ next. omega (arith, few, next)) c.number.ensures.next
