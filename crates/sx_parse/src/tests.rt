@@ -54,12 +54,7 @@ fn answer(alloc: Global, text: &str) -> Result<String, AllocError> {
 }
 
 // Adds a text to those that come out otherwise, if it does.
-fn note(
-    text: &str,
-    found: &str,
-    expected: &str,
-    wrong: &mut String,
-) -> Result<(), AllocError> {
+fn note(text: &str, found: &str, expected: &str, wrong: &mut String) -> Result<(), AllocError> {
     if found == expected {
         return Ok(());
     }

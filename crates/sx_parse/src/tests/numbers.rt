@@ -71,73 +71,97 @@ fn of_template(alloc: Global, text: &str) -> Result<String, AllocError> {
     Ok(all)
 }
 
+const EXPRESSIONS: &[(&str, &str)] = &[
+    ("1", " LiteralValue 5; 6 on 9"),
+    // parentheses are no construct
+    ("((1))", " LiteralValue 5; 6 on 9"),
+    (
+        "a + b/c[1]",
+        " Arith 5 Step 6 Path 7 Step 8 Step 9 LiteralValue 10; 11 on 9",
+    ),
+    // a comma is one, and what `//` stands for is none
+    (
+        "//a, 1, .",
+        " Comma 5 Path 6 Root 7 Step 8 LiteralValue 9 Dot 10; 11 on 9",
+    ),
+    (
+        "for $x in a, $y in b return ($x, - - $y)",
+        " For 5 Step 6 For 7 Step 8 Comma 9 Var 10 Unary 11 Unary 12 Var 13; 14 on 9",
+    ),
+    (
+        "(a, b)[c][d] cast as xs:string",
+        " Cast 5 Filter 6 Comma 7 Step 8 Step 9 Step 10 Step 11; 12 on 9",
+    ),
+    (
+        "if (some $x in () satisfies count($x) = 1) then a | b else .. || 'x'",
+        " If 5 Some 6 Empty 7 Compare 8 Call 9 Var 10 LiteralValue 11 Union 12 Step 13 Step 14 Concat 15 Step 16 LiteralValue 17; 18 on 9",
+    ),
+    (
+        "let $x := a ! 1 to 2 return every $y in $x castable as xs:string satisfies $y or $x and 1",
+        " Let 5 Range 6 Map 7 Step 8 LiteralValue 9 LiteralValue 10 Every 11 Castable 12 Var 13 Or 14 Var 15 And 16 Var 17 LiteralValue 18; 19 on 9",
+    ),
+];
+
 #[test]
 fn an_expression_is_counted_before_its_parts(rt: HostRuntime) -> Result<(), Fail> {
-    const ROWS: &[(&str, &str)] = &[
-        ("1", " LiteralValue 5; 6 on 9"),
-        // parentheses are no construct
-        ("((1))", " LiteralValue 5; 6 on 9"),
-        (
-            "a + b/c[1]",
-            " Arith 5 Step 6 Path 7 Step 8 Step 9 LiteralValue 10; 11 on 9",
-        ),
-        // a comma is one, and what `//` stands for is none
-        (
-            "//a, 1, .",
-            " Comma 5 Path 6 Root 7 Step 8 LiteralValue 9 Dot 10; 11 on 9",
-        ),
-        (
-            "for $x in a, $y in b return ($x, - - $y)",
-            " For 5 Step 6 For 7 Step 8 Comma 9 Var 10 Unary 11 Unary 12 Var 13; 14 on 9",
-        ),
-        (
-            "(a, b)[c][d] cast as xs:string",
-            " Cast 5 Filter 6 Comma 7 Step 8 Step 9 Step 10 Step 11; 12 on 9",
-        ),
-        (
-            "if (some $x in () satisfies count($x) = 1) then a | b else .. || 'x'",
-            " If 5 Some 6 Empty 7 Compare 8 Call 9 Var 10 LiteralValue 11 Union 12 Step 13 Step 14 Concat 15 Step 16 LiteralValue 17; 18 on 9",
-        ),
-        (
-            "let $x := a ! 1 to 2 return every $y in $x castable as xs:string satisfies $y or $x and 1",
-            " Let 5 Range 6 Map 7 Step 8 LiteralValue 9 LiteralValue 10 Every 11 Castable 12 Var 13 Or 14 Var 15 And 16 Var 17 LiteralValue 18; 19 on 9",
-        ),
-    ];
     let mut wrong = String::new(rt.alloc());
-    for (text, expected) in ROWS {
-        note(text, of_expr(rt.alloc(), text)?.as_str(), expected, &mut wrong)?;
+    for (text, expected) in EXPRESSIONS {
+        note(
+            text,
+            of_expr(rt.alloc(), text)?.as_str(),
+            expected,
+            &mut wrong,
+        )?;
     }
     assert!(rt; wrong.is_empty(), "{wrong}");
     Ok(())
 }
+
+const PATTERNS: &[(&str, &str)] = &[
+    ("/", "Pattern 5 on 9: Root 0; 6 on 9"),
+    (
+        "a//b | @k",
+        "Pattern 5 on 9: Path 0 Step 0 Step 0 Step 0; 6 on 9",
+    ),
+    (
+        "a[1][b] | /c[d/e]//f[.]",
+        "Pattern 5 on 9: Step 0 LiteralValue 6 Step 7 Path 0 Path 0 Root 0 Step 0 Path 8 Step 9 Step 10 Step 0 Dot 11; 12 on 9",
+    ),
+];
 
 #[test]
 fn the_steps_of_a_pattern_are_not_counted(rt: HostRuntime) -> Result<(), Fail> {
-    const ROWS: &[(&str, &str)] = &[
-        ("/", "Pattern 5 on 9: Root 0; 6 on 9"),
-        ("a//b | @k", "Pattern 5 on 9: Path 0 Step 0 Step 0 Step 0; 6 on 9"),
-        (
-            "a[1][b] | /c[d/e]//f[.]",
-            "Pattern 5 on 9: Step 0 LiteralValue 6 Step 7 Path 0 Path 0 Root 0 Step 0 Path 8 Step 9 Step 10 Step 0 Dot 11; 12 on 9",
-        ),
-    ];
     let mut wrong = String::new(rt.alloc());
-    for (text, expected) in ROWS {
-        note(text, of_pattern(rt.alloc(), text)?.as_str(), expected, &mut wrong)?;
+    for (text, expected) in PATTERNS {
+        note(
+            text,
+            of_pattern(rt.alloc(), text)?.as_str(),
+            expected,
+            &mut wrong,
+        )?;
     }
     assert!(rt; wrong.is_empty(), "{wrong}");
     Ok(())
 }
 
+const TEMPLATES: &[(&str, &str)] = &[
+    ("x{{", "; 5 on 9"),
+    (
+        "{a}x{b + 1}",
+        " Step 5 Arith 6 Step 7 LiteralValue 8; 9 on 9",
+    ),
+];
+
 #[test]
 fn a_value_template_is_counted_on(rt: HostRuntime) -> Result<(), Fail> {
-    const ROWS: &[(&str, &str)] = &[
-        ("x{{", "; 5 on 9"),
-        ("{a}x{b + 1}", " Step 5 Arith 6 Step 7 LiteralValue 8; 9 on 9"),
-    ];
     let mut wrong = String::new(rt.alloc());
-    for (text, expected) in ROWS {
-        note(text, of_template(rt.alloc(), text)?.as_str(), expected, &mut wrong)?;
+    for (text, expected) in TEMPLATES {
+        note(
+            text,
+            of_template(rt.alloc(), text)?.as_str(),
+            expected,
+            &mut wrong,
+        )?;
     }
     assert!(rt; wrong.is_empty(), "{wrong}");
     Ok(())

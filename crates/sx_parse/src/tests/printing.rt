@@ -202,7 +202,11 @@ fn write_parts(
 #[cycle(counting)]
 pub fn write_numbers(expr: &Expr, line: u64, out: &mut String) -> Result<(), AllocError> {
     let (kind, number) = (expr.construct.kind, expr.construct.number);
-    let other = if expr.construct.line == line { "" } else { " on another line" };
+    let other = if expr.construct.line == line {
+        ""
+    } else {
+        " on another line"
+    };
     let text = format!(in *out.allocator(); " {kind:?} {number}{other}")?;
     out.push_str(text.as_str())?;
     write_all_numbers(expr.parts.as_slice(), line, out)
