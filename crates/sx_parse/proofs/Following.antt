@@ -1,39 +1,32 @@
 -- Behind an operand the code and the machine agree.
-use Rattle.std.proofs.Common.{◌≡◌, ℕ, suc, ◌+◌, ◌-◌, ◌^◌, ◌<◌, ◌≤◌, min, Bool, true, false, ◌&&◌, not, if◌then◌else◌, nat_le, nat_eq, List, [], ◌∷◌, ◌++◌, length, slice_set, Option, Some, None, Result, Ok, Err, refl, ap, sym, ◌∙◌, arith, append_assoc, append-nil, length-append}
+use Rattle.std.proofs.Common.{◌≡◌, ℕ, suc, ◌+◌, ◌-◌, Bool, true, false, ◌&&◌, not, nat_le, nat_eq, List, [], ◌∷◌, ◌++◌, length, slice_set, Option, Some, None, Ok, refl, ap, sym, ◌∙◌, arith, append_assoc, append-nil, length-append}
 use Rattle.std.proofs.Math.Seq.{set-append_seam}
-use Rattle.sx_kinds.specs.declared.expressions.ArithOp.TheVariants as arith_op
 use Rattle.sx_parse.specs.declared.lexemes.Operator.{Operator}
-use Rattle.sx_parse.specs.declared.lexemes.Operator.TheVariants as operator
 use Rattle.sx_parse.specs.declared.lexemes.Casting.{Casting}
-use Rattle.sx_parse.specs.declared.lexemes.KindWord.{KindWord}
 use Rattle.sx_parse.specs.declared.lexemes.Word.{Word}
 use Rattle.sx_parse.specs.declared.lexemes.Word.TheVariants as word
 use Rattle.sx_parse.specs.declared.lexemes.Mark.{Mark}
 use Rattle.sx_parse.specs.declared.lexemes.Mark.TheVariants as mark
 use Rattle.sx_parse.specs.declared.lexemes.Lexeme.{Lexeme}
 use Rattle.sx_parse.specs.declared.lexemes.Lexeme.TheVariants as lexeme
-use Rattle.sx_parse.specs.declared.lexemes.StepPrefix.{StepPrefix}
-use Rattle.sx_parse.specs.declared.lexemes.StepPrefix.TheVariants as prefix
-use Rattle.sx_parse.specs.declared.lexemes.Test.TheVariants as test
 use Rattle.sx_parse.specs.declared.nodes.Node.{Node}
 use Rattle.sx_parse.specs.declared.nodes.Node.TheVariants as node
 use Rattle.sx_parse.specs.declared.roles.Role.{Role}
 use Rattle.sx_parse.specs.declared.roles.Role.TheVariants as role
 use Rattle.sx_parse.specs.declared.frames.Frame.{Frame}
 use Rattle.sx_parse.specs.declared.frames.Frame.TheVariants as frame
-use Rattle.sx_parse.specs.declared.frames.Shape.{Shape}
 use Rattle.sx_parse.specs.declared.frames.Shape.TheVariants as shape
 use Rattle.sx_parse.specs.declared.frames.Mode.{Mode}
 use Rattle.sx_parse.specs.declared.frames.Mode.TheVariants as mode
-use Rattle.sx_parse.specs.Grammar.{level, left_level, casting_level, prefix_level, names_axis, takes_name, introduces, returns, begins_step, allows, Tree, literal, dot, parent, root, variable, step, empty, parens, call, called, filter, comma, prefixed, binary, cast, choice, bind, Bindings, first, also, binder_of}
+use Rattle.sx_parse.specs.Grammar.{level, left_level, casting_level, returns, allows, Tree, root, comma, cast, first, also, binder_of}
 use Rattle.sx_parse.specs.Nodes.{nodes, takes_more, value_nodes}
-use Rattle.sx_parse.specs.Roles.{roles, binding_roles, prefix_roles, inner_role, operand_count}
-use Rattle.sx_parse.specs.Standing.{depth, stack_roles, stack_nodes, state_roles, given_roles, given_nodes}
-use Rattle.sx_parse.specs.Machine.{Given, begun, behind, Stack, bottom, pending, more, signed, paren, arguments, predicate, condition, branch, otherwise, binding, body, State, want, fresh, slash, named, dollar, axis, kind, kind_name, have, comma_bound, binder_dollar, binder_name, casting, casting_as, conditioned, in_pattern, floor, bound, given_binder, reaches, Reached, reached, reach, when, begin_mark, begin, close_empty, begin_fresh, close_under, close, close_bracket, else_under, comma_under, return_under, operate_on, cast_on, question, follow_operator, follow_mark, follow_name, follow, open_kind, open_plain, open_name, name_axis, name_binder, follow_named, axis_test, in_kind, end_kind, variable_name, bound_dollar, bound_name, cast_as, cast_type, then_word, follow_slash, read}
+use Rattle.sx_parse.specs.Roles.{roles, binding_roles, operand_count}
+use Rattle.sx_parse.specs.Standing.{depth, stack_roles, stack_nodes}
+use Rattle.sx_parse.specs.Machine.{begun, behind, Stack, pending, more, paren, arguments, predicate, condition, branch, binding, body, State, want, casting, in_pattern, floor, reaches, Reached, reach, when, close_under, close, close_bracket, else_under, comma_under, return_under, operate_on, cast_on, question, follow_operator, follow_mark, follow_name, follow}
 use Rattle.sx_parse.specs.Flat as flat
-use Rattle.sx_parse.specs.Flat.{Flat, Joined, Outcome, joined, joins, when_some, under, join, count_behind, next, replaced}
-use Rattle.sx_parse.proofs.Reached.{shape_of, body_frames, given_frames, is_first, frames, is_pattern, raw, at, holding, joined_of, Small, next_is, sub_is, reach_is}
-use Rattle.sx_parse.proofs.Kept.{bound_at, kept, told, if_is, unless_is, none_is, cond_is, uncond_is, in_pattern_is, floor_is, shape_reaches, small, opened_is}
+use Rattle.sx_parse.specs.Flat.{Flat, Joined, Outcome, joined, joins, under, join, count_behind, replaced}
+use Rattle.sx_parse.proofs.Reached.{shape_of, body_frames, frames, is_pattern, raw, at, holding, joined_of, Small, sub_is, reach_is}
+use Rattle.sx_parse.proofs.Kept.{told, if_is, cond_is, uncond_is, in_pattern_is, floor_is, shape_reaches, small, opened_is}
 
 -- ---- joining first
 
@@ -127,7 +120,7 @@ return_is t l (binding (begun k p) w r i s) m =
 return_is t l (binding (behind bs) w r i s) m =
     if_is _ (returns (binder_of bs) l) _ _ (want (body (also bs w r i t) l s)) refl
     (raw_is (body_frames (also bs w r i t) ++ frames s) _ _ _ _ _ _ _ (append_assoc (stack_nodes s) (value_nodes bs) (nodes t))
-     (also_roles (stack_roles s) (binding_roles (depth s) bs) (roles (suc (depth s)) t)))
+    (also_roles (stack_roles s) (binding_roles (depth s) bs) (roles (suc (depth s)) t)))
 return_is t l (body (first k p w r i a) j s) m = refl
 return_is t l (body (also bs w r i a) j s) m = refl
 return_is t l s m = refl
@@ -154,7 +147,7 @@ question_is : (t : Tree) (s : Stack) (m : Mode) → flat.question (holding t s m
 question_is (cast e k i j w r false) s m =
     ap (λ (ns : List Node). Ok (at s ns (read_roles (cast e k i j w r false) s ++ role.Plain ∷ []) (mode.Have (shape.Cast k r true) 1)))
     (ap (λ (ns : List Node). replaced ns (node.Cast k r true)) (sym (append_assoc (stack_nodes s) (nodes e) (node.Cast k r false ∷ [])))
-        ∙ replaced_is (stack_nodes s ++ nodes e) (node.Cast k r false) (node.Cast k r true))
+    ∙ replaced_is (stack_nodes s ++ nodes e) (node.Cast k r false) (node.Cast k r true))
     ∙ simp append_assoc
 question_is (cast e k i j w r true) s m = refl
 question_is t s m = refl
@@ -169,7 +162,7 @@ open_predicate_is t s m h =
     if_is _ (reaches (in_pattern s) 16 t) _ _ (want (predicate t s))
     (ap (λ (b : Bool). flat.reaches b 16 (shape_of t)) (in_pattern_is s) ∙ shape_reaches (in_pattern s) 16 t)
     (opened_is s (stack_nodes s ++ nodes t) (read_roles t s) m (frame.Predicate (flat.takes_more (shape_of t))) mode.Want (small s (roles (depth s) t) h)
-        ∙ ap (λ (b : Bool). Ok (raw (frame.Predicate b ∷ frames s) (stack_nodes s ++ nodes t) (read_roles t s ++ role.Opens (suc (depth s)) ∷ []) (suc (depth s)) (is_pattern s) mode.Want)) (takes_more_is t))
+    ∙ ap (λ (b : Bool). Ok (raw (frame.Predicate b ∷ frames s) (stack_nodes s ++ nodes t) (read_roles t s ++ role.Opens (suc (depth s)) ∷ []) (suc (depth s)) (is_pattern s) mode.Want)) (takes_more_is t))
 
 follow_mark_is : (t : Tree) (s : Stack) (m : Mode) (x : Mark) → Small (length (read_roles t s)) →
     flat.follow_mark (holding t s m) (shape_of t) (operand_count t) x ≡ told (read_roles t s) (follow_mark t s x)
@@ -189,7 +182,7 @@ follow_casting_is : (t : Tree) (s : Stack) (m : Mode) (k : Casting) (p : ℕ) �
 follow_casting_is t s m k p h =
     cond_is _ (not (in_pattern s) && reaches false (suc (casting_level k)) t) _ _ _
     (ap (λ (b : Bool). not b && flat.reaches false (suc (casting_level k)) (shape_of t)) (in_pattern_is s)
-        ∙ ap (λ (b : Bool). not (in_pattern s) && b) (shape_reaches false (suc (casting_level k)) t))
+    ∙ ap (λ (b : Bool). not (in_pattern s) && b) (shape_reaches false (suc (casting_level k)) t))
     (after_reach (suc (casting_level k)) t s m (λ (j : Joined). flat.cast_on j.flat k) (cast_on k p) h (λ r. cast_on_is k p r m))
 
 returned_is : (t : Tree) (s : Stack) (m : Mode) (l : Lexeme) → Small (length (read_roles t s)) →

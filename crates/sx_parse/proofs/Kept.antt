@@ -1,38 +1,30 @@
 -- What the code keeps in each state of the machine, and that both agree where an operand has to come.
-use Rattle.std.proofs.Common.{◌≡◌, ℕ, suc, ◌+◌, ◌-◌, ◌^◌, ◌<◌, ◌≤◌, min, Bool, true, false, ◌&&◌, not, if◌then◌else◌, nat_le, nat_eq, List, [], ◌∷◌, ◌++◌, length, slice_set, Option, Some, None, Result, Ok, Err, refl, ap, sym, ◌∙◌, arith, append_assoc, append-nil, length-append}
+use Rattle.std.proofs.Common.{◌≡◌, ℕ, suc, ◌+◌, ◌-◌, ◌^◌, ◌<◌, ◌≤◌, Bool, true, false, ◌&&◌, not, if◌then◌else◌, nat_le, nat_eq, List, [], ◌∷◌, ◌++◌, length, Option, Some, None, Ok, Err, refl, ap, ◌∙◌, arith, append_assoc, append-nil, length-append}
 use Rattle.std.proofs.Math.Dec.{eqb-suc-zero}
 use Rattle.sx_kinds.specs.declared.expressions.ArithOp.TheVariants as arith_op
 use Rattle.sx_parse.specs.declared.lexemes.Operator.{Operator}
 use Rattle.sx_parse.specs.declared.lexemes.Operator.TheVariants as operator
 use Rattle.sx_parse.specs.declared.lexemes.Casting.{Casting}
-use Rattle.sx_parse.specs.declared.lexemes.KindWord.{KindWord}
-use Rattle.sx_parse.specs.declared.lexemes.Word.{Word}
-use Rattle.sx_parse.specs.declared.lexemes.Word.TheVariants as word
 use Rattle.sx_parse.specs.declared.lexemes.Mark.{Mark}
 use Rattle.sx_parse.specs.declared.lexemes.Mark.TheVariants as mark
 use Rattle.sx_parse.specs.declared.lexemes.Lexeme.{Lexeme}
 use Rattle.sx_parse.specs.declared.lexemes.Lexeme.TheVariants as lexeme
-use Rattle.sx_parse.specs.declared.lexemes.StepPrefix.{StepPrefix}
-use Rattle.sx_parse.specs.declared.lexemes.StepPrefix.TheVariants as prefix
 use Rattle.sx_parse.specs.declared.lexemes.Test.TheVariants as test
 use Rattle.sx_parse.specs.declared.nodes.Node.{Node}
-use Rattle.sx_parse.specs.declared.nodes.Node.TheVariants as node
 use Rattle.sx_parse.specs.declared.roles.Role.{Role}
 use Rattle.sx_parse.specs.declared.roles.Role.TheVariants as role
 use Rattle.sx_parse.specs.declared.frames.Frame.{Frame}
 use Rattle.sx_parse.specs.declared.frames.Frame.TheVariants as frame
-use Rattle.sx_parse.specs.declared.frames.Shape.{Shape}
-use Rattle.sx_parse.specs.declared.frames.Shape.TheVariants as shape
 use Rattle.sx_parse.specs.declared.frames.Mode.{Mode}
 use Rattle.sx_parse.specs.declared.frames.Mode.TheVariants as mode
-use Rattle.sx_parse.specs.Grammar.{level, left_level, casting_level, prefix_level, names_axis, takes_name, introduces, returns, begins_step, allows, Tree, literal, dot, parent, root, variable, step, empty, parens, call, called, filter, comma, prefixed, binary, cast, choice, bind, Bindings, first, also, binder_of}
-use Rattle.sx_parse.specs.Nodes.{nodes, takes_more}
+use Rattle.sx_parse.specs.Grammar.{Tree, literal, dot, parent, root, first, also, binder_of}
+use Rattle.sx_parse.specs.Nodes.{nodes}
 use Rattle.sx_parse.specs.Roles.{roles, binding_roles, prefix_roles, inner_role, operand_count}
-use Rattle.sx_parse.specs.Standing.{depth, stack_roles, stack_nodes, state_roles, given_roles, given_nodes}
-use Rattle.sx_parse.specs.Machine.{Given, begun, behind, Stack, bottom, pending, more, signed, paren, arguments, predicate, condition, branch, otherwise, binding, body, State, want, fresh, slash, named, dollar, axis, kind, kind_name, have, comma_bound, binder_dollar, binder_name, casting, casting_as, conditioned, in_pattern, floor, bound, given_binder, reaches, Reached, reached, reach, when, begin_mark, begin, close_empty, begin_fresh, close_under, close, close_bracket, else_under, comma_under, return_under, operate_on, cast_on, question, follow_operator, follow_mark, follow_name, follow, open_kind, open_plain, open_name, name_axis, name_binder, follow_named, axis_test, in_kind, end_kind, variable_name, bound_dollar, bound_name, cast_as, cast_type, then_word, follow_slash, read}
+use Rattle.sx_parse.specs.Standing.{depth, stack_roles, stack_nodes, given_roles, given_nodes}
+use Rattle.sx_parse.specs.Machine.{Given, behind, Stack, bottom, pending, more, signed, paren, arguments, predicate, condition, branch, otherwise, binding, body, State, want, fresh, slash, named, dollar, axis, kind, kind_name, have, comma_bound, binder_dollar, binder_name, casting, casting_as, conditioned, in_pattern, floor, given_binder, reaches, when, begin_mark, begin, close_empty, begin_fresh}
 use Rattle.sx_parse.specs.Flat as flat
-use Rattle.sx_parse.specs.Flat.{Flat, Joined, Outcome, joined, joins, when_some, under, join, count_behind, next, replaced}
-use Rattle.sx_parse.proofs.Reached.{shape_of, body_frames, given_frames, is_first, frames, is_pattern, raw, at, holding, joined_of, Small, next_is, sub_is, reach_is}
+use Rattle.sx_parse.specs.Flat.{Flat, Outcome, next}
+use Rattle.sx_parse.proofs.Reached.{shape_of, given_frames, is_first, frames, is_pattern, raw, at, holding, Small, next_is, sub_is}
 
 -- ---- what the code keeps in each state
 

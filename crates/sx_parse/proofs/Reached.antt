@@ -1,9 +1,5 @@
 -- What the machine of the definitions is to the code: its lists, and that joining what is pending gives the same of both.
-use Rattle.std.proofs.Common.{◌≡◌, ℕ, suc, ◌+◌, ◌-◌, ◌^◌, ◌<◌, ◌≤◌, min, Bool, true, false, ◌&&◌, not, if◌then◌else◌, nat_le, nat_eq, List, [], ◌∷◌, ◌++◌, length, Option, Some, None, Result, Ok, Err, refl, ap, sym, ◌∙◌, arith, append_assoc, append-nil, length-append}
-use Rattle.sx_parse.specs.declared.lexemes.Operator.{Operator}
-use Rattle.sx_parse.specs.declared.lexemes.Operator.TheVariants as operator
-use Rattle.sx_parse.specs.declared.lexemes.Lexeme.{Lexeme}
-use Rattle.sx_parse.specs.declared.lexemes.StepPrefix.TheVariants as prefix
+use Rattle.std.proofs.Common.{◌≡◌, ℕ, suc, ◌+◌, ◌-◌, ◌^◌, ◌<◌, ◌≤◌, Bool, true, false, if◌then◌else◌, nat_le, List, [], ◌∷◌, ◌++◌, length, Some, None, refl, ap, ◌∙◌, arith, append_assoc, length-append}
 use Rattle.sx_parse.specs.declared.lexemes.Test.{Test}
 use Rattle.sx_parse.specs.declared.lexemes.Test.TheVariants as test
 use Rattle.sx_parse.specs.declared.nodes.Node.{Node}
@@ -15,14 +11,13 @@ use Rattle.sx_parse.specs.declared.frames.Frame.TheVariants as frame
 use Rattle.sx_parse.specs.declared.frames.Shape.{Shape}
 use Rattle.sx_parse.specs.declared.frames.Shape.TheVariants as shape
 use Rattle.sx_parse.specs.declared.frames.Mode.{Mode}
-use Rattle.sx_parse.specs.declared.frames.Mode.TheVariants as mode
 use Rattle.sx_parse.specs.Grammar.{level, prefix_level, Tree, literal, dot, parent, root, variable, step, empty, parens, call, called, filter, comma, prefixed, binary, cast, choice, bind, Bindings, first, also, binder_of}
-use Rattle.sx_parse.specs.Nodes.{nodes, name_nodes, value_nodes, takes_more}
-use Rattle.sx_parse.specs.Roles.{roles, binding_roles, test_roles, prefix_roles, operand_count}
-use Rattle.sx_parse.specs.Standing.{depth, stack_roles, stack_nodes, given_roles, given_nodes}
+use Rattle.sx_parse.specs.Nodes.{nodes, name_nodes, takes_more}
+use Rattle.sx_parse.specs.Roles.{roles, test_roles, prefix_roles, operand_count}
+use Rattle.sx_parse.specs.Standing.{depth, stack_roles, stack_nodes}
 use Rattle.sx_parse.specs.Machine.{Given, begun, behind, Stack, bottom, pending, more, signed, paren, arguments, predicate, condition, branch, otherwise, binding, body, given_binder, Reached, reached, reach}
 use Rattle.sx_parse.specs.Flat as flat
-use Rattle.sx_parse.specs.Flat.{Flat, Joined, joined, under, join, joins, when_some, count_behind, next}
+use Rattle.sx_parse.specs.Flat.{Flat, Joined, joined, under, join, when_some, count_behind, next}
 
 -- ---- the lists of the machine
 
@@ -183,7 +178,7 @@ reach_is n t (pending a l o s) gs ns rs d c m e f g h b =
 reach_is n t (more a s) gs ns rs d c m e f g h b =
     joins_is (nat_le n 0) n (frame.More (operand_count a)) node.Comma (frames s) (raw gs ns rs d (is_pattern s) m) c (reach n (comma a t) s) (reached t (more a s)) m
     (reach_is n (comma a t) s (frames s) (ns ++ node.Comma ∷ []) rs d (next (operand_count a)) m (rw e (simp append_assoc)) (f ∙ simp append_assoc) g
-     (next_is (operand_count a) (more_small (stack_roles s) (roles (depth s) a) (roles (depth s) t) rs (operand_count a) f (count_le (depth s) a) b)) b)
+    (next_is (operand_count a) (more_small (stack_roles s) (roles (depth s) a) (roles (depth s) t) rs (operand_count a) f (count_le (depth s) a) b)) b)
     (same (frames (more a s)) gs ns _ rs _ d _ _ m c _ e f g h)
 reach_is n t (signed o s) gs ns rs d c m e f g h b =
     joins_is (nat_le n (prefix_level o)) n (frame.Signed o) (node.Prefix o) (frames s) (raw gs ns rs d (is_pattern s) m) c (reach n (prefixed o t) s) (reached t (signed o s)) m

@@ -1,5 +1,5 @@
 -- What the code answers for a list of tokens.
-use Rattle.std.proofs.Common.{◌≡◌, ℕ, suc, ◌+◌, ◌^◌, ◌<◌, Bool, true, false, ◌&&◌, if◌then◌else◌, nat_eq, List, [], ◌∷◌, ◌++◌, length, Option, Some, None, Err, refl, ap, subst, sym, ◌∙◌, arith, append_assoc, append-nil, length-append}
+use Rattle.std.proofs.Common.{◌≡◌, ℕ, suc, ◌+◌, ◌^◌, ◌<◌, Bool, true, false, if◌then◌else◌, List, [], ◌∷◌, ◌++◌, length, Option, Some, None, Err, refl, ap, subst, sym, ◌∙◌, arith, append_assoc, append-nil, length-append}
 use Rattle.sx_parse.specs.declared.lexemes.Lexeme.{Lexeme}
 use Rattle.sx_parse.specs.declared.lexemes.StepPrefix.{StepPrefix}
 use Rattle.sx_parse.specs.declared.lexemes.Word.{Word}
@@ -7,19 +7,18 @@ use Rattle.sx_parse.specs.declared.lexemes.Test.TheVariants as test
 use Rattle.sx_parse.specs.declared.nodes.Node.TheVariants as node
 use Rattle.sx_parse.specs.declared.roles.Role.{Role}
 use Rattle.sx_parse.specs.declared.roles.Role.TheVariants as role
-use Rattle.sx_parse.specs.declared.frames.Shape.TheVariants as shape
 use Rattle.sx_parse.specs.declared.frames.Mode.{Mode}
 use Rattle.sx_parse.specs.declared.frames.Mode.TheVariants as mode
 use Rattle.sx_parse.specs.declared.reader.Reading.{Reading}
 use Rattle.sx_parse.specs.Grammar.{Tree, root, step, first, also}
 use Rattle.sx_parse.specs.Nodes.{nodes}
 use Rattle.sx_parse.specs.Roles.{roles, prefix_roles, operand_count}
-use Rattle.sx_parse.specs.Standing.{depth, stack_roles, stack_nodes, state_roles}
-use Rattle.sx_parse.specs.Machine.{Stack, body, State, slash, named, have, start, in_pattern, floor, reaches, Reached, reach, read, whole_under, whole, ended_root, ended}
+use Rattle.sx_parse.specs.Standing.{stack_roles, stack_nodes, state_roles}
+use Rattle.sx_parse.specs.Machine.{Stack, body, State, slash, named, have, start, in_pattern, floor, reaches, reach, read, whole_under, whole, ended}
 use Rattle.sx_parse.specs.Reading.{IsReadAs}
 use Rattle.sx_parse.specs.Flat as flat
-use Rattle.sx_parse.specs.Flat.{Flat, Joined, Outcome}
-use Rattle.sx_parse.proofs.Reached.{shape_of, frames, is_pattern, at, holding, Small}
+use Rattle.sx_parse.specs.Flat.{Joined, Outcome}
+use Rattle.sx_parse.proofs.Reached.{shape_of, frames, at, holding, Small}
 use Rattle.sx_parse.proofs.Kept.{kept, told}
 use Rattle.sx_parse.proofs.Following.{read_roles, holding_reach, kept_roles}
 use Rattle.sx_parse.proofs.Simulation.{root_is, read_is}
@@ -43,8 +42,8 @@ whole_after : (k : ℕ) (t : Tree) (s : Stack) (m : Mode) → Small (length (rea
     flat.answer k (flat.whole (flat.joined_at 0 (holding t s m) (operand_count t)).flat) ≡ told_end k (read_roles t s) (whole (reach 0 t s))
 whole_after k t s m h =
     ap (λ (j : Joined). flat.answer k (flat.whole j.flat)) (holding_reach 0 t s m h)
-        ∙ whole_is k (reach 0 t s).operand (reach 0 t s).under m
-        ∙ ap (λ (rs : List Role). told_end k rs (whole (reach 0 t s))) (kept_roles 0 t s h)
+    ∙ whole_is k (reach 0 t s).operand (reach 0 t s).under m
+    ∙ ap (λ (rs : List Role). told_end k rs (whole (reach 0 t s))) (kept_roles 0 t s h)
 
 end_step_is : (k : ℕ) (pre : StepPrefix) (w : Word) (p : ℕ) (s : Stack) → Small (length (state_roles (named pre w p s))) →
     flat.answer k (flat.end_step (kept (named pre w p s)) pre w p)
@@ -54,8 +53,8 @@ end_step_is k pre w p s h =
     let e = append_assoc (stack_roles s) (prefix_roles pre) (role.Name ∷ []) in
     let i = rw e at h in
     ap (λ (rs : List Role). flat.answer k (flat.whole (flat.joined_at 0 (at s (stack_nodes s ++ node.Step pre (test.Named w p) ∷ []) rs (mode.Named pre w p)) 1).flat)) e
-        ∙ whole_after k t s (mode.Named pre w p) i
-        ∙ ap (λ (rs : List Role). told_end k rs (whole (reach 0 t s))) (sym e)
+    ∙ whole_after k t s (mode.Named pre w p) i
+    ∙ ap (λ (rs : List Role). told_end k rs (whole (reach 0 t s))) (sym e)
 
 abbrev refused : List Role → Outcome
 refused rs = Err rs
@@ -115,11 +114,11 @@ run_answers p ts (l ∷ ls) s b h =
     let F : Outcome → Type 0 = λ o. IsAnswer p (ts ++ l ∷ ls) (flat.and_then (length ts) o (λ x. flat.run x (suc (length ts)) ls)) in
     subst F (sym e)
     (token_answers p ts l ls s (read s l) b refl
-     (λ next r.
-        let G : List Lexeme → ℕ → Type 0 = λ us n. IsAnswer p us (flat.run (kept next) n ls) in
-        subst (λ (us : List Lexeme). G us (suc (length ts))) g
-        (subst (λ (n : ℕ). G ((ts ++ l ∷ []) ++ ls) n) count
-         (run_answers p (ts ++ l ∷ []) ls next (behind_more p ts l s next b r) (rw g h)))))
+    (λ next r.
+    let G : List Lexeme → ℕ → Type 0 = λ us n. IsAnswer p us (flat.run (kept next) n ls) in
+    subst (λ (us : List Lexeme). G us (suc (length ts))) g
+    (subst (λ (n : ℕ). G ((ts ++ l ∷ []) ++ ls) n) count
+    (run_answers p (ts ++ l ∷ []) ls next (behind_more p ts l s next b r) (rw g h)))))
 
 pub reads : (p : Bool) (ts : List Lexeme) → length ts < 2 ^ 32 → IsAnswer p ts (flat.run (flat.start p) 0 ts)
 reads p ts h = run_answers p [] ts (start p) refl h

@@ -1,5 +1,5 @@
 -- The code reads as the machine of the definitions does: what it keeps is what the machine has, token by token.
-use Rattle.std.proofs.Common.{◌≡◌, ℕ, suc, ◌+◌, ◌-◌, ◌^◌, ◌<◌, ◌≤◌, min, Bool, true, false, ◌&&◌, not, if◌then◌else◌, nat_le, nat_eq, List, [], ◌∷◌, ◌++◌, length, slice_set, Option, Some, None, Result, Ok, Err, refl, ap, sym, ◌∙◌, arith, append_assoc, append-nil, length-append}
+use Rattle.std.proofs.Common.{◌≡◌, ℕ, suc, ◌+◌, ◌-◌, ◌^◌, ◌<◌, Bool, ◌&&◌, not, nat_le, nat_eq, List, [], ◌∷◌, ◌++◌, length, Ok, refl, ap, sym, ◌∙◌, arith, append_assoc, append-nil, length-append}
 use Rattle.sx_kinds.specs.declared.expressions.ArithOp.TheVariants as arith_op
 use Rattle.sx_parse.specs.declared.lexemes.Operator.{Operator}
 use Rattle.sx_parse.specs.declared.lexemes.Operator.TheVariants as operator
@@ -15,26 +15,21 @@ use Rattle.sx_parse.specs.declared.lexemes.Lexeme.TheVariants as lexeme
 use Rattle.sx_parse.specs.declared.lexemes.StepPrefix.{StepPrefix}
 use Rattle.sx_parse.specs.declared.lexemes.StepPrefix.TheVariants as prefix
 use Rattle.sx_parse.specs.declared.lexemes.Test.TheVariants as test
-use Rattle.sx_parse.specs.declared.nodes.Node.{Node}
 use Rattle.sx_parse.specs.declared.nodes.Node.TheVariants as node
 use Rattle.sx_parse.specs.declared.roles.Role.{Role}
 use Rattle.sx_parse.specs.declared.roles.Role.TheVariants as role
-use Rattle.sx_parse.specs.declared.frames.Frame.{Frame}
-use Rattle.sx_parse.specs.declared.frames.Frame.TheVariants as frame
-use Rattle.sx_parse.specs.declared.frames.Shape.{Shape}
 use Rattle.sx_parse.specs.declared.frames.Shape.TheVariants as shape
 use Rattle.sx_parse.specs.declared.frames.Mode.{Mode}
 use Rattle.sx_parse.specs.declared.frames.Mode.TheVariants as mode
-use Rattle.sx_parse.specs.Grammar.{level, left_level, casting_level, prefix_level, names_axis, takes_name, introduces, returns, begins_step, allows, Tree, literal, dot, parent, root, variable, step, empty, parens, call, called, filter, comma, prefixed, binary, cast, choice, bind, Bindings, first, also, binder_of}
-use Rattle.sx_parse.specs.Nodes.{nodes, takes_more, value_nodes}
-use Rattle.sx_parse.specs.Roles.{roles, binding_roles, prefix_roles, inner_role, operand_count}
-use Rattle.sx_parse.specs.Standing.{depth, stack_roles, stack_nodes, state_roles, given_roles, given_nodes}
-use Rattle.sx_parse.specs.Machine.{Given, begun, behind, Stack, bottom, pending, more, signed, paren, arguments, predicate, condition, branch, otherwise, binding, body, State, want, fresh, slash, named, dollar, axis, kind, kind_name, have, comma_bound, binder_dollar, binder_name, casting, casting_as, conditioned, in_pattern, floor, bound, given_binder, reaches, Reached, reached, reach, when, begin_mark, begin, close_empty, begin_fresh, close_under, close, close_bracket, else_under, comma_under, return_under, operate_on, cast_on, question, follow_operator, follow_mark, follow_name, follow, open_kind, open_plain, open_name, name_axis, name_binder, follow_named, axis_test, in_kind, end_kind, variable_name, bound_dollar, bound_name, cast_as, cast_type, then_word, follow_slash, read}
+use Rattle.sx_parse.specs.Grammar.{names_axis, takes_name, introduces, begins_step, Tree, root, step, Bindings, binder_of}
+use Rattle.sx_parse.specs.Roles.{prefix_roles, operand_count}
+use Rattle.sx_parse.specs.Standing.{depth, stack_roles, stack_nodes, state_roles}
+use Rattle.sx_parse.specs.Machine.{Given, begun, Stack, signed, arguments, condition, binding, State, want, fresh, slash, named, dollar, axis, kind, kind_name, have, comma_bound, binder_dollar, binder_name, casting, casting_as, conditioned, in_pattern, floor, given_binder, reaches, when, follow, open_kind, open_plain, open_name, name_axis, name_binder, follow_named, axis_test, in_kind, end_kind, variable_name, bound_dollar, bound_name, cast_as, cast_type, then_word, follow_slash, read}
 use Rattle.sx_parse.specs.Flat as flat
-use Rattle.sx_parse.specs.Flat.{Flat, Joined, Outcome, joined, joins, when_some, under, join, count_behind, next, replaced}
-use Rattle.sx_parse.proofs.Reached.{shape_of, body_frames, given_frames, is_first, frames, is_pattern, raw, at, holding, joined_of, Small, next_is, sub_is, reach_is}
-use Rattle.sx_parse.proofs.Kept.{bound_at, kept, told, if_is, unless_is, none_is, cond_is, either_is, in_pattern_is, floor_is, shape_reaches, small, opened_is, depth_le, begin_is, begin_fresh_is}
-use Rattle.sx_parse.proofs.Following.{read_roles, follow_is, holding_reach, kept_roles, replaced_is}
+use Rattle.sx_parse.specs.Flat.{Flat}
+use Rattle.sx_parse.proofs.Reached.{shape_of, is_first, frames, is_pattern, at, Small, next_is}
+use Rattle.sx_parse.proofs.Kept.{kept, told, if_is, unless_is, cond_is, either_is, in_pattern_is, floor_is, small, depth_le, begin_is, begin_fresh_is}
+use Rattle.sx_parse.proofs.Following.{follow_is, replaced_is}
 
 -- ---- behind a name
 
@@ -119,8 +114,8 @@ follow_step_is pre w p s m l h =
     let e = append_assoc (stack_roles s) (prefix_roles pre) (role.Name ∷ []) in
     let k = rw e at h in
     ap (λ (rs : List Role). flat.follow (at s (stack_nodes s ++ node.Step pre (test.Named w p) ∷ []) rs m) shape.Filtered 1 l) e
-        ∙ follow_is (step pre (test.Named w p)) s m l k
-        ∙ ap (λ (rs : List Role). told rs (follow (step pre (test.Named w p)) s l)) (sym e)
+    ∙ follow_is (step pre (test.Named w p)) s m l k
+    ∙ ap (λ (rs : List Role). told rs (follow (step pre (test.Named w p)) s l)) (sym e)
 
 name_small : (pre : StepPrefix) (s : Stack) → Small (length (name_roles pre s)) → suc (depth s) < 2 ^ 32
 name_small pre s h = let k = depth_le s in let l = simp length-append at h in omega arith

@@ -123,7 +123,10 @@ impl Reader {
             Some(Frame::Paren) => self.closed(Node::Empty, Role::Plain, Shape::Other),
             Some(Frame::Arguments(function)) => {
                 let arguments = 0;
-                let closes = Role::Closes { function, arguments };
+                let closes = Role::Closes {
+                    function,
+                    arguments,
+                };
                 self.closed(Node::Call(function), closes, Shape::Other)
             }
             _ => Ok(false),

@@ -109,14 +109,7 @@ pub(crate) fn expression(
 {
     match understand(alloc, false, scope, text)? {
         Err(fault) => Ok(Err(fault)),
-        Ok(understood) => Ok(Ok(numbered(
-            alloc,
-            scope,
-            names,
-            text,
-            &understood,
-            at,
-        )?)),
+        Ok(understood) => Ok(Ok(numbered(alloc, scope, names, text, &understood, at)?)),
     }
 }
 

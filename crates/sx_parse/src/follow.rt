@@ -4,10 +4,10 @@ ghost use Rattle.sx_parse.specs.Flat as flat;
 ghost use Rattle.sx_parse.specs.Flat.{outcome, seen};
 
 use crate::frames::{Frame, Mode, Shape};
-use crate::reaching::reaches;
 use crate::levels::{cast_operand_level, casting_level, left_level, level};
 use crate::lexemes::{Binder, Casting, Lexeme, Mark, Operator, Word};
 use crate::nodes::Node;
+use crate::reaching::reaches;
 use crate::reader::{Reader, replace_last};
 use crate::roles::Role;
 use crate::rules::{allows, returns};
@@ -29,7 +29,10 @@ impl Reader {
             Some(Frame::Paren) => self.closed(Node::Parens, Role::Plain, Shape::Other),
             Some(Frame::Arguments(function)) => {
                 let arguments = operands;
-                let closes = Role::Closes { function, arguments };
+                let closes = Role::Closes {
+                    function,
+                    arguments,
+                };
                 self.closed(Node::Called(function), closes, Shape::Other)
             }
             Some(Frame::Condition) => self.conditioned(),
@@ -86,11 +89,13 @@ impl Reader {
         ensures { IfOk result (λ goes. outcome goes (seen self.new) ≡ flat.comma (flat.joined (seen self.old) operands)) }
     {
         match self.frames.pop() {
-            Some(Frame::Binding {
-                binder,
-                name,
-                first,
-            }) => self.comma_bound(binder, name, first),
+            Some(
+                Frame::Binding {
+                    binder,
+                    name,
+                    first,
+                },
+            ) => self.comma_bound(binder, name, first),
             Some(frame) => {
                 self.frames.push(frame)?;
                 self.more_operands(operands)
@@ -104,11 +109,13 @@ impl Reader {
         ensures { IfOk result (λ goes. outcome goes (seen self.new) ≡ flat.returned (seen self.old) lexeme) }
     {
         match self.frames.pop() {
-            Some(Frame::Binding {
-                binder,
-                name,
-                first,
-            }) if returns(binder, lexeme) => {
+            Some(
+                Frame::Binding {
+                    binder,
+                    name,
+                    first,
+                },
+            ) if returns(binder, lexeme) => {
                 let body = Frame::Body {
                     binder,
                     name,
@@ -205,7 +212,12 @@ impl Reader {
         }
     }
 
-    fn follow_casting(&mut self, shape: Shape, operands: u64, casting: Casting) -> Result<bool, AllocError>
+    fn follow_casting(
+        &mut self,
+        shape: Shape,
+        operands: u64,
+        casting: Casting,
+    ) -> Result<bool, AllocError>
         ensures { IfOk result (λ goes. outcome goes (seen self.new) ≡ flat.follow_casting (seen self.old) shape operands casting) }
     {
         let floor = cast_operand_level(casting);
@@ -295,7 +307,12 @@ impl Reader {
     }
 
     /// A token behind an operand.
-    pub fn follow(&mut self, shape: Shape, operands: u64, lexeme: Lexeme) -> Result<bool, AllocError>
+    pub fn follow(
+        &mut self,
+        shape: Shape,
+        operands: u64,
+        lexeme: Lexeme,
+    ) -> Result<bool, AllocError>
         ensures { IfOk result (λ goes. outcome goes (seen self.new) ≡ flat.follow (seen self.old) shape operands lexeme) }
     {
         match lexeme {

@@ -15,7 +15,9 @@ pub(crate) enum Frame {
     /// a function's name, and `(`
     Arguments(u32),
     /// what is filtered, and `[`; whether that is one more of a step or of what was filtered before
-    Predicate { more: bool },
+    Predicate {
+        more: bool,
+    },
     /// `if` and `(`
     Condition,
     /// `then`, behind a test

@@ -10,6 +10,7 @@ mod follow;
 mod forms;
 mod frames;
 mod functions;
+mod inside;
 pub mod laws;
 mod levels;
 mod lexemes;
@@ -26,14 +27,13 @@ mod reaching;
 mod reader;
 mod roles;
 mod rules;
+mod states;
 mod steps;
 mod stops;
 pub mod template_laws;
 mod templates;
 #[cfg(test)]
 mod tests;
-#[cfg(test)]
-mod token_tests;
 mod words;
 
 pub use expressions::parse_expr;

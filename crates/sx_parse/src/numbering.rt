@@ -1,6 +1,6 @@
 // The numbers of constructs.
 ghost use Rattle.std.specs.Prelude.{◌≡◌, ◌+◌, ◌<◌, ◌^◌, map, IfOk, OnOk};
-ghost use Rattle.sx_parse.specs.Numbered.{count, counts, in_order, is_path, numbered, numbered_steps, numbers_in, step_count};
+ghost use Rattle.sx_parse.specs.Numbered.{count, counts, in_order, is_path, numbered, numbers_in};
 
 use crate::faults::Numbering;
 use crate::forms::reversed;
@@ -16,20 +16,6 @@ pub(crate) fn number(alloc: Global, expr: Expr, at: &mut Numbering) -> Result<Ex
     ensures line { at.new.line ≡ at.old.line }
 {
     number_in(alloc, expr, false, at)
-}
-
-/// An alternative of a pattern: the constructs in its predicates are numbered, and its steps are not (XSLT 3.0, 5.5).
-pub(crate) fn number_steps(
-    alloc: Global,
-    expr: Expr,
-    at: &mut Numbering,
-) -> Result<Expr, AllocError>
-    requires { at.old.next + step_count expr < 2 ^ 64 }
-    ensures expr { IfOk result (λ e. e ≡ numbered_steps at.old.next expr) }
-    ensures next { OnOk result (at.new.next ≡ at.old.next + step_count expr) }
-    ensures line { at.new.line ≡ at.old.line }
-{
-    number_in(alloc, expr, true, at)
 }
 
 fn is_a_path(form: &ExprForm) -> bool

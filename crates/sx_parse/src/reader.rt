@@ -20,7 +20,7 @@ pub(crate) struct Reader {
     pub nodes: Items<Node>,
     /// what the tokens are
     pub roles: Items<Role>,
-    /// how many things are open
+    /// how many things are open: never more than tokens, of which there are fewer than 2^32
     pub depth: u64,
     /// whether a pattern is read
     pub pattern: bool,
@@ -49,6 +49,7 @@ pub(crate) fn replace_last<T: Drop>(items: &mut Items<T>, item: T)
 }
 
 impl Reader {
+    /// Nothing is read yet.
     pub fn new(alloc: Global, pattern: bool) -> Reader
         ensures { seen result ≡ flat.start pattern }
     {

@@ -17,9 +17,7 @@ pub(crate) fn allows(pattern: bool, lexeme: Lexeme) -> bool
     }
     matches!(
         lexeme,
-        Lexeme::Mark(Mark::Operator(
-            Operator::Union | Operator::Slash | Operator::DoubleSlash
-        ))
+        Lexeme::Mark(Mark::Operator(Operator::Union | Operator::Slash | Operator::DoubleSlash))
     )
 }
 

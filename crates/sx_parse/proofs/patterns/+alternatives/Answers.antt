@@ -1,7 +1,6 @@
-use Rattle.std.proofs.Common.{◌≡◌, ℕ, Bool, true, false, List, [], ◌∷◌, ◌++◌, length, ap, sym, ◌∙◌, arith, length-append}
+use Rattle.std.proofs.Common.{◌≡◌, ℕ, true, false, List, [], ◌∷◌, ◌++◌, length, ap, sym, ◌∙◌, arith, length-append}
 use Rattle.std.proofs.lemmas.Result.{IfOk-weaker}
 use Rattle.sx_kinds.specs.declared.expressions.Expr.{Expr}
-use Rattle.sx_kinds.specs.declared.expressions.Expr.TheViews.{out-Expr}
 use Rattle.sx_parse.specs.Grammar.{Fits, Tree}
 use Rattle.sx_parse.specs.Says as spec
 use Rattle.sx_parse.specs.Says.{Meaning}
