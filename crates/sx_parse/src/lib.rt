@@ -32,6 +32,8 @@ mod steps;
 mod stops;
 pub mod template_laws;
 mod templates;
+#[cfg(test)]
+mod tests;
 mod words;
 
 pub use expressions::parse_expr;
