@@ -32,8 +32,10 @@ mod steps;
 mod stops;
 pub mod template_laws;
 mod templates;
+mod value_templates;
 mod words;
 
 pub use expressions::parse_expr;
 pub use faults::{Numbering, SyntaxFault};
 pub use patterns::parse_pattern;
+pub use value_templates::parse_avt;
