@@ -34,8 +34,10 @@ pub mod template_laws;
 mod templates;
 #[cfg(test)]
 mod tests;
+mod value_templates;
 mod words;
 
 pub use expressions::parse_expr;
 pub use faults::{Numbering, SyntaxFault};
 pub use patterns::parse_pattern;
+pub use value_templates::parse_avt;
