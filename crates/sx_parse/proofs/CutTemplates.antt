@@ -1,7 +1,7 @@
 -- A value template that is cut piece by piece.
 use Rattle.std.proofs.Common.{◌≡◌, ℕ, suc, ◌⊎◌, inl, inr, Bool, true, false, List, [], ◌∷◌, ◌++◌, length, drop, refl, ap, sym, subst, ◌∙◌, arith, append_assoc, append-nil, length-append, length-drop}
 use Rattle.std.proofs.lemmas.Str.{IsCharBoundary-start}
-use Rattle.std.specs.Str.{IsCharBoundary, IsUtf8}
+use Rattle.std.specs.Str.{IsUtf8}
 use Rattle.sx_parse.specs.declared.faults.SyntaxFault.{SyntaxFault}
 use Rattle.sx_parse.specs.declared.templates.Next.TheVariants as next
 use Rattle.sx_parse.specs.Templates.{Piece, fixed, inner, all_written, doubled, written, ArePieces, Breaks, IsCut, IsUnclosed, IsUnopened, IsNext, StopsFixed}

@@ -1,12 +1,12 @@
 -- A fault of a text stands within it.
-use Rattle.std.proofs.Common.{◌≡◌, ℕ, zero, suc, ◌≤◌, ◌⊎◌, inl, inr, Bool, List, [], ◌∷◌, length, take, Option, Some, None, ap, arith}
+use Rattle.std.proofs.Common.{ℕ, zero, suc, ◌≤◌, inl, inr, Bool, List, [], ◌∷◌, length, take, Option, Some, None, ap, arith}
 use Rattle.std.specs.Str.{IsUtf8}
 use Rattle.sx_atoms.specs.declared.error_codes.Code.{Code}
 use Rattle.sx_lex.proofs.Breaks.{front_cut}
 use Rattle.sx_lex.specs.declared.kinds.Token.{Token}
 use Rattle.sx_parse.specs.declared.faults.SyntaxFault.{SyntaxFault}
 use Rattle.sx_parse.specs.declared.roles.Role.{Role}
-use Rattle.sx_parse.specs.Answers.{IsRefused, IsUnread, IsUnsound, breaks, end_of, fault_in, fault_or, offset_in}
+use Rattle.sx_parse.specs.Answers.{IsRefused, breaks, end_of, fault_in, fault_or, offset_in}
 use Rattle.sx_parse.specs.Checks.{Bindings, first_fault, fault_at, role_fault}
 use Rattle.sx_parse.specs.Lexemes.{lexemes_of}
 use Rattle.sx_parse.specs.Lexing.{AreParts, AreRead}
