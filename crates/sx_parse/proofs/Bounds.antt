@@ -1,5 +1,5 @@
 -- A text has fewer constructs than twice its bytes.
-use Rattle.std.proofs.Common.{◌≡◌, ℕ, suc, ◌+◌, ◌*◌, ◌≤◌, Bool, true, List, length, map, Result, Ok, Err, OnOk, ap, ◌∙◌, arith}
+use Rattle.std.proofs.Common.{◌≡◌, ℕ, suc, ◌*◌, ◌≤◌, Bool, true, List, length, map, Result, Ok, Err, OnOk, ap, ◌∙◌, arith}
 use Rattle.sx_kinds.specs.declared.expressions.Expr.{Expr}
 use Rattle.sx_lex.specs.declared.kinds.Token.{Token}
 use Rattle.sx_parse.specs.declared.lexemes.Lexeme.{Lexeme}

@@ -1,25 +1,13 @@
 -- A value template that is cut piece by piece.
 use Rattle.std.proofs.Common.{◌≡◌, ℕ, suc, ◌⊎◌, inl, inr, Bool, true, false, List, [], ◌∷◌, ◌++◌, length, drop, refl, ap, sym, subst, ◌∙◌, arith, append_assoc, append-nil, length-append, length-drop}
 use Rattle.std.proofs.lemmas.Str.{IsCharBoundary-start}
-use Rattle.std.specs.Str.{IsCharBoundary, IsUtf8}
+use Rattle.std.specs.Str.{IsUtf8}
 use Rattle.sx_parse.specs.declared.faults.SyntaxFault.{SyntaxFault}
 use Rattle.sx_parse.specs.declared.templates.Next.TheVariants as next
 use Rattle.sx_parse.specs.Templates.{Piece, fixed, inner, all_written, doubled, written, ArePieces, Breaks, IsCut, IsUnclosed, IsUnopened, IsNext, StopsFixed}
+use Rattle.sx_parse.specs.Turning.{IsCutTo, ends_fixed}
 use Rattle.sx_parse.proofs.OneTemplate.{apart}
 use Rattle.sx_parse.proofs.Pieces.{end_is, fixed_is, fixed_is_some, fixed_stops, inner_of, inner_is, inner_is_closed, inner_is_single}
-
--- whether the last piece is fixed text; the flag, where there is none
-abbrev pub ends_fixed : Bool → List Piece → Bool
-ends_fixed flag [] = flag
-ends_fixed flag (fixed text ∷ pieces) = ends_fixed true pieces
-ends_fixed flag (inner text ∷ pieces) = ends_fixed false pieces
-
--- up to an offset a text is cut into these pieces
-pub record IsCutTo (text : List ℕ) (pieces : List Piece) (offset : ℕ) : Type 0 where
-  pub written : text ≡ all_written pieces ++ drop offset text
-  pub cut : ArePieces false pieces
-  pub apart : ends_fixed false pieces ≡ true → StopsFixed (drop offset text)
-  pub boundary : IsCharBoundary text offset
 
 written_push : (ps : List Piece) (p : Piece) → all_written (ps ++ p ∷ []) ≡ all_written ps ++ written p
 written_push [] p = append-nil (written p)

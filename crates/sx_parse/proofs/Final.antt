@@ -1,17 +1,13 @@
 -- Where the machine stands at the end, what was read.
-use Rattle.std.proofs.Common.{◌≡◌, ℕ, suc, ◌+◌, ◌<◌, ◌≤◌, Bool, true, false, List, [], ◌∷◌, ◌++◌, length, take, drop, slice_get, Option, Some, None, refl, ap, sym, ◌∙◌, append_assoc, append-nil, arith}
+use Rattle.std.proofs.Common.{◌≡◌, ℕ, suc, ◌+◌, ◌≤◌, Bool, true, false, List, [], ◌∷◌, ◌++◌, length, take, Option, Some, None, refl, ap, sym, ◌∙◌, append_assoc, append-nil, arith}
 use Rattle.std.proofs.Math.Seq.{take-append_seam, take-append-add, take-length}
 use Rattle.std.proofs.lemmas.List.{length-append, length-take-le}
 use Rattle.sx_parse.specs.declared.lexemes.Lexeme.{Lexeme}
 use Rattle.sx_parse.specs.declared.lexemes.Lexeme.TheVariants as lexeme
-use Rattle.sx_parse.specs.declared.lexemes.Mark.{Mark}
 use Rattle.sx_parse.specs.declared.lexemes.Mark.TheVariants as mark
-use Rattle.sx_parse.specs.declared.lexemes.Word.{Word}
-use Rattle.sx_parse.specs.declared.roles.Role.{Role}
-use Rattle.sx_parse.specs.Grammar.{Tree, Fits, tokens, Derives, IsFault, binding_tokens}
-use Rattle.sx_parse.specs.Machine.{State, named, comma_bound, start, read, ended}
-use Rattle.sx_parse.specs.Nodes.{nodes}
-use Rattle.sx_parse.specs.Reading.{turns, IsQuiet, ends_in_name, Continues, IsWhole, IsStopped}
+use Rattle.sx_parse.specs.Grammar.{Tree, IsFault, binding_tokens}
+use Rattle.sx_parse.specs.Machine.{State, comma_bound, start, read, ended}
+use Rattle.sx_parse.specs.Reading.{turns, IsQuiet, ends_in_name, IsWhole, IsStopped}
 use Rattle.sx_parse.specs.Roles.{roles}
 use Rattle.sx_parse.specs.Standing.{state_roles, state_nodes}
 use Rattle.sx_parse.proofs.Running.{bind, accept}
@@ -20,7 +16,7 @@ use Rattle.sx_parse.proofs.Joining.{last_nodes}
 use Rattle.sx_parse.proofs.Firm.{Leads}
 use Rattle.sx_parse.proofs.Behind.{after, then_read, Behind, goes_on, held, kept, behind_counts, front_taken, stands_whole}
 use Rattle.sx_parse.proofs.Sound.{IsSound, flag_of, tokens_of, stack_tokens, Goes, step_goes}
-use Rattle.sx_parse.proofs.Ends.{Ends, Quiet, begins_quiet, state_can_end}
+use Rattle.sx_parse.proofs.Ends.{Quiet, begins_quiet, state_can_end}
 use Rattle.sx_parse.proofs.Exact.{Stops, derived, fault}
 
 -- ---- a state behind tokens

@@ -1,5 +1,5 @@
 -- Behind an operand the code and the machine agree.
-use Rattle.std.proofs.Common.{◌≡◌, ℕ, suc, ◌+◌, ◌-◌, Bool, true, false, ◌&&◌, not, nat_le, nat_eq, List, [], ◌∷◌, ◌++◌, length, slice_set, Option, Some, None, Ok, refl, ap, sym, ◌∙◌, arith, append_assoc, append-nil, length-append}
+use Rattle.std.proofs.Common.{◌≡◌, ℕ, suc, ◌-◌, Bool, true, false, ◌&&◌, not, nat_le, nat_eq, List, [], ◌∷◌, ◌++◌, length, slice_set, Option, Some, None, Ok, refl, ap, sym, ◌∙◌, arith, append_assoc, append-nil, length-append}
 use Rattle.std.proofs.Math.Seq.{set-append_seam}
 use Rattle.sx_parse.specs.declared.lexemes.Operator.{Operator}
 use Rattle.sx_parse.specs.declared.lexemes.Casting.{Casting}
@@ -18,7 +18,7 @@ use Rattle.sx_parse.specs.declared.frames.Frame.TheVariants as frame
 use Rattle.sx_parse.specs.declared.frames.Shape.TheVariants as shape
 use Rattle.sx_parse.specs.declared.frames.Mode.{Mode}
 use Rattle.sx_parse.specs.declared.frames.Mode.TheVariants as mode
-use Rattle.sx_parse.specs.Grammar.{level, left_level, casting_level, returns, allows, Tree, root, comma, cast, first, also, binder_of}
+use Rattle.sx_parse.specs.Grammar.{level, left_level, casting_level, returns, allows, Tree, root, cast, first, also, binder_of}
 use Rattle.sx_parse.specs.Nodes.{nodes, takes_more, value_nodes}
 use Rattle.sx_parse.specs.Roles.{roles, binding_roles, operand_count}
 use Rattle.sx_parse.specs.Standing.{depth, stack_roles, stack_nodes}

@@ -32,3 +32,5 @@ pub mod LiteralNodes
 pub mod Counted
 pub mod Unions
 pub mod Bounds
+pub mod Within
+pub mod Turning

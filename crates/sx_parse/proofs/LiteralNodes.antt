@@ -1,5 +1,5 @@
 -- The literals among the nodes of a derivation stand for literals of the text.
-use Rattle.std.proofs.Common.{◌≡◌, ℕ, zero, suc, ◌+◌, Bool, true, false, List, [], ◌∷◌, ◌++◌, Option, Some, None, refl, ap, sym, ◌∙◌, subst, arith}
+use Rattle.std.proofs.Common.{◌≡◌, ℕ, suc, ◌+◌, Bool, true, false, List, [], ◌∷◌, ◌++◌, Option, Some, refl, ap, sym, ◌∙◌, subst, arith}
 use Rattle.std.specs.List.{slice_get}
 use Rattle.std.specs.Option.{option_map_or}
 use Rattle.sx_lex.specs.Tokens.{is_name, is_wild, is_integer, is_decimal, is_literal, is_mark, first_kind, kind_of}
@@ -13,9 +13,9 @@ use Rattle.sx_parse.specs.declared.lexemes.Word.TheVariants as word
 use Rattle.sx_parse.specs.declared.nodes.Node.{Node}
 use Rattle.sx_parse.specs.declared.nodes.Node.TheVariants as node
 use Rattle.sx_parse.specs.Built.{IsLiteralAt, IsLiteralIn, AreLiteralsIn}
-use Rattle.sx_parse.specs.Grammar.{Tree, literal, dot, parent, root, variable, step, empty, parens, call, called, filter, comma, prefixed, binary, cast, choice, bind, Bindings, first, also, binder_of, tokens, binding_tokens, question_tokens}
+use Rattle.sx_parse.specs.Grammar.{Tree, literal, dot, parent, root, variable, step, empty, parens, call, called, filter, comma, prefixed, binary, cast, choice, bind, Bindings, first, also, tokens, binding_tokens, question_tokens}
 use Rattle.sx_parse.specs.Lexemes.{text_of, lexeme_of, lexemes_from, lexemes_of}
-use Rattle.sx_parse.specs.Lexing.{IsPart, AreParts}
+use Rattle.sx_parse.specs.Lexing.{AreParts}
 use Rattle.sx_parse.specs.Literals.{IsLiteral}
 use Rattle.sx_parse.specs.Nodes.{takes_more, nodes, value_nodes, name_nodes}
 use Rattle.sx_parse.specs.Says.{Meaning, token_kind_in}

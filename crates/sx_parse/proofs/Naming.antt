@@ -1,5 +1,5 @@
 -- Names and their numbers, one token after the other.
-use Rattle.std.proofs.Common.{◌≡◌, ℕ, zero, suc, ◌+◌, ◌<◌, Bool, true, false, cond, ◌&&◌, List, [], ◌∷◌, ◌++◌, append_assoc, append-nil, length, drop, get_or, min, slice_get, Some, None, Result, Ok, Err, IfOk, refl, ap, sym, ◌∙◌, subst, inl, inr, arith}
+use Rattle.std.proofs.Common.{◌≡◌, ℕ, zero, suc, ◌+◌, ◌<◌, Bool, true, false, cond, List, [], ◌∷◌, ◌++◌, append_assoc, append-nil, length, drop, get_or, min, slice_get, Some, Result, Ok, Err, IfOk, refl, ap, sym, ◌∙◌, inl, inr, arith}
 use Rattle.std.proofs.lemmas.Bool.{cases_lt, and_parts, and_from, false≢true, false_from_ne_true}
 use Rattle.std.proofs.lemmas.List.{drop_all}
 use Rattle.std.proofs.lemmas.Option.{none-some, same_Some}
@@ -7,7 +7,7 @@ use Rattle.std.proofs.lemmas.Slice.Eq.{bytes_eq-Decides}
 use Rattle.std.specs.Prelude.{bytes_eq}
 use Rattle.std.specs.declared.alloc.AllocError.{AllocError}
 use Rattle.sx_lex.specs.declared.kinds.Token.{Token}
-use Rattle.sx_names.specs.Numbering.{IsDistinct, IsAbsent, IsNumbered}
+use Rattle.sx_names.specs.Numbering.{IsDistinct, IsNumbered}
 use Rattle.sx_chars.specs.Names.{local_of}
 use Rattle.sx_parse.specs.Checks.{Bindings, name_uri}
 use Rattle.sx_parse.specs.Lexemes.{text_of}

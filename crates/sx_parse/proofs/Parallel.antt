@@ -1,5 +1,5 @@
 -- Each token of a derivation has one role.
-use Rattle.std.proofs.Common.{◌≡◌, ℕ, suc, ◌+◌, Bool, true, false, List, [], ◌∷◌, ◌++◌, length, refl, ap, sym, ◌∙◌, arith}
+use Rattle.std.proofs.Common.{◌≡◌, ℕ, suc, Bool, true, false, List, ◌∷◌, ◌++◌, length, refl, ap, sym, ◌∙◌, arith}
 use Rattle.std.proofs.lemmas.List.{length-append}
 use Rattle.sx_parse.specs.declared.lexemes.Lexeme.{Lexeme}
 use Rattle.sx_parse.specs.declared.lexemes.StepPrefix.{StepPrefix}

@@ -1,16 +1,16 @@
 -- The tokens of a text are parts of it.
-use Rattle.std.proofs.Common.{◌≡◌, ℕ, zero, suc, ◌+◌, ◌-◌, ◌<◌, ◌≤◌, List, [], ◌∷◌, ◌++◌, append_assoc, length, take, drop, get_or, Option, Some, None, refl, ap, sym, subst, ◌∙◌, arith, length-take}
+use Rattle.std.proofs.Common.{◌≡◌, ℕ, zero, suc, ◌+◌, ◌-◌, ◌<◌, ◌≤◌, List, [], ◌∷◌, ◌++◌, append_assoc, length, take, drop, get_or, Option, Some, None, ap, sym, subst, ◌∙◌, arith, length-take}
 use Rattle.std.proofs.lemmas.List.{take-take, drop-take, drop-drop}
 use Rattle.std.proofs.lemmas.Str.{IsCharBoundary-start, IsUtf8-take}
 use Rattle.std.proofs.Math.Seq.{drop-cons}
 use Rattle.std.specs.Str.{IsCharBoundary, IsUtf8}
 use Rattle.sx_lex.specs.Laws.{AreCuts, AreSpans}
-use Rattle.sx_lex.specs.Tokens.{AreTokens, BreaksBehind, kind_of, white_len}
+use Rattle.sx_lex.specs.Tokens.{AreTokens, kind_of, white_len}
 use Rattle.sx_lex.specs.declared.kinds.Token.{Token}
 use Rattle.sx_lex.proofs.Breaks.{cut_of_front, front_tokens, front_cut}
 use Rattle.sx_lex.proofs.Unique.{are_spans, are_cuts}
-use Rattle.sx_parse.specs.Lexemes.{text_of, lexeme_of, lexemes_from, lexemes_of}
-use Rattle.sx_parse.specs.Lexing.{AreRead, IsPart, AreParts, IsLexed}
+use Rattle.sx_parse.specs.Lexemes.{text_of, lexeme_of, lexemes_from}
+use Rattle.sx_parse.specs.Lexing.{AreRead, IsPart, AreParts}
 use Rattle.sx_parse.specs.declared.lexemes.Lexeme.{Lexeme}
 
 -- the token at a place is a part

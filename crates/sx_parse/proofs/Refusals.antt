@@ -1,5 +1,5 @@
 -- What was read and what fails, put together.
-use Rattle.std.proofs.Common.{◌≡◌, ℕ, suc, ◌+◌, ◌<◌, ◌≤◌, ◌⊎◌, Bool, true, false, nat_lt, List, [], ◌∷◌, ◌++◌, length, take, Option, Some, None, inl, inr, refl, ap, sym, ◌∙◌, append-nil, arith}
+use Rattle.std.proofs.Common.{◌≡◌, ℕ, suc, ◌<◌, ◌≤◌, ◌⊎◌, Bool, true, false, nat_lt, List, [], ◌∷◌, length, Option, Some, None, inl, inr, refl, ap, sym, ◌∙◌, append-nil, arith}
 use Rattle.std.proofs.lemmas.Bool.Decides.{nat_tests}
 use Rattle.std.proofs.lemmas.List.{take_all}
 use Rattle.sx_lex.specs.declared.kinds.Token.{Token}
@@ -7,12 +7,12 @@ use Rattle.sx_parse.specs.declared.faults.SyntaxFault.{SyntaxFault}
 use Rattle.sx_parse.specs.declared.lexemes.Lexeme.{Lexeme}
 use Rattle.sx_parse.specs.declared.nodes.Node.{Node}
 use Rattle.sx_parse.specs.declared.roles.Role.{Role}
-use Rattle.sx_parse.specs.Answers.{IsRead, IsRefused, IsUnsound, IsUnread, StopsAt, fault_in, fault_or, breaks, end_of}
+use Rattle.sx_parse.specs.Answers.{IsRefused, IsUnsound, IsUnread, StopsAt, fault_in, fault_or, breaks, end_of}
 use Rattle.sx_parse.specs.Checks.{Bindings, first_fault}
-use Rattle.sx_parse.specs.Grammar.{Tree, tokens, Derives, IsFault}
+use Rattle.sx_parse.specs.Grammar.{IsFault}
 use Rattle.sx_parse.specs.Lexemes.{lexemes_of, lexemes_from}
 use Rattle.sx_parse.specs.Lexing.{IsLexed}
-use Rattle.sx_parse.specs.Reading.{Continues, IsReadAs, IsWhole, IsStopped}
+use Rattle.sx_parse.specs.Reading.{IsReadAs, IsWhole, IsStopped}
 use Rattle.sx_parse.specs.Roles.{roles}
 use Rattle.sx_parse.specs.Understanding.{IsUnderstood, stop_of}
 use Rattle.sx_parse.proofs.Parallel.{parallel}

@@ -6,7 +6,7 @@ use Rattle.std.specs.Option.{unwrap_or}
 use Rattle.std.specs.Prelude.{is_some}
 use Rattle.std.specs.List.{list_any}
 use Rattle.sx_chars.specs.Names.{behind}
-use Rattle.sx_parse.specs.Lexemes.{found, words, marks, word_with, word_of}
+use Rattle.sx_parse.specs.Lexemes.{found, words, word_with, word_of}
 use Rattle.sx_parse.specs.Checks.{fn_uri, xs_uri, functions, constructors, function_named}
 use Rattle.sx_parse.specs.declared.lexemes.Word.{Word}
 use Rattle.sx_parse.specs.declared.lexemes.Word.TheVariants as word

@@ -1,8 +1,7 @@
 -- What is answered for a text: the expression of its one derivation, or the fault at the least offset.
-use Rattle.std.specs.Prelude.{◌≡◌, ℕ, suc, ◌+◌, ◌-◌, ◌<◌, ◌≤◌, ◌⊎◌, Bool, true, false, not, ◌&&◌, nat_lt, nat_eq, List, [], ◌∷◌, length, take, slice_get, Option, Some, None, if◌then◌else◌}
+use Rattle.std.specs.Prelude.{◌≡◌, ℕ, suc, ◌-◌, ◌<◌, ◌≤◌, ◌⊎◌, Bool, true, false, not, ◌&&◌, nat_lt, nat_eq, List, [], ◌∷◌, length, take, slice_get, Option, Some, None, if◌then◌else◌}
 use Rattle.sx_atoms.specs.declared.error_codes.Code.{Code}
 use Rattle.sx_atoms.specs.declared.error_codes.Code.TheVariants as code
-use Rattle.sx_kinds.specs.declared.expressions.Expr.{Expr}
 use Rattle.sx_lex.specs.declared.kinds.Token.{Token}
 use Rattle.sx_lex.specs.Tokens.{AreTokens}
 use Rattle.sx_parse.specs.declared.faults.SyntaxFault.{SyntaxFault}
@@ -10,7 +9,7 @@ use Rattle.sx_parse.specs.declared.lexemes.Lexeme.{Lexeme}
 use Rattle.sx_parse.specs.declared.lexemes.Lexeme.TheVariants as lexeme
 use Rattle.sx_parse.specs.declared.lexemes.Mark.TheVariants as mark
 use Rattle.sx_parse.specs.Checks.{Bindings, most_bytes, first_fault}
-use Rattle.sx_parse.specs.Grammar.{Tree, Derives, Begins, IsFault}
+use Rattle.sx_parse.specs.Grammar.{Tree, Derives, IsFault}
 use Rattle.sx_parse.specs.Lexemes.{lexemes_of}
 use Rattle.sx_parse.specs.Lexing.{AreRead}
 use Rattle.sx_parse.specs.Numbers.{Name, names_among, numbers_among, with_names}

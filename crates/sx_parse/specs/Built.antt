@@ -1,5 +1,5 @@
 -- What nodes build, one after another, from the lists of operands that are complete: the last list on top.
-use Rattle.std.specs.Prelude.{ℕ, Bool, true, false, List, [], ◌∷◌, ◌++◌}
+use Rattle.std.specs.Prelude.{ℕ, List, [], ◌∷◌, ◌++◌}
 use Rattle.sx_kinds.specs.declared.constructs.ConstructKind.TheVariants as kind
 use Rattle.sx_kinds.specs.declared.expressions.Expr.{Expr}
 use Rattle.sx_kinds.specs.declared.expressions.ExprForm.TheVariants as form

@@ -1,7 +1,7 @@
 -- The grammar of expressions and patterns, as derivations: what tokens each has (XPath 3.1, A.1; XSLT 3.0, 5.5). An expression is
 -- of a level: 0 Expr, 1 Single, 2 Or, 3 And, 4 Comp, 5 Cat, 6 Range, 7 Add, 8 Mul, 9 Union, 10 Castable, 11 Cast, 12 Unary, 13 Map,
 -- 14 Path, 15 a Path that steps may follow, 16 Step.
-use Rattle.std.specs.Prelude.{◌≡◌, ℕ, suc, ◌<◌, ◌≤◌, Bool, true, false, ◌&&◌, ◌||◌, not, List, [], ◌∷◌, ◌++◌, length, take, Option, Some, None}
+use Rattle.std.specs.Prelude.{◌≡◌, ℕ, suc, ◌<◌, ◌≤◌, Bool, true, false, ◌&&◌, List, [], ◌∷◌, ◌++◌, length, take, Option, Some, None}
 use Rattle.sx_kinds.specs.declared.expressions.ArithOp.TheVariants as arith
 use Rattle.sx_tree.specs.declared.steps.Axis.{Axis}
 use Rattle.sx_tree.specs.declared.steps.Axis.TheVariants as axis
@@ -15,7 +15,6 @@ use Rattle.sx_parse.specs.declared.lexemes.KindWord.{KindWord}
 use Rattle.sx_parse.specs.declared.lexemes.KindWord.TheVariants as kind_word
 use Rattle.sx_parse.specs.declared.lexemes.Word.{Word}
 use Rattle.sx_parse.specs.declared.lexemes.Word.TheVariants as word
-use Rattle.sx_parse.specs.declared.lexemes.Mark.{Mark}
 use Rattle.sx_parse.specs.declared.lexemes.Mark.TheVariants as mark
 use Rattle.sx_parse.specs.declared.lexemes.Lexeme.{Lexeme}
 use Rattle.sx_parse.specs.declared.lexemes.Lexeme.TheVariants as lexeme

@@ -1,5 +1,5 @@
 -- What the tokens of a text are to the grammar.
-use Rattle.std.specs.Prelude.{ℕ, suc, ◌-◌, Bool, true, false, List, [], ◌∷◌, take, drop, slice_get, bytes_eq, codes, Option, Some, None, if◌then◌else◌}
+use Rattle.std.specs.Prelude.{ℕ, suc, ◌-◌, true, false, List, [], ◌∷◌, take, drop, bytes_eq, codes, Option, Some, None, if◌then◌else◌}
 use Rattle.sx_atoms.specs.declared.comparison.CmpOp.TheVariants as cmp
 use Rattle.sx_chars.specs.Names.{behind}
 use Rattle.sx_kinds.specs.declared.expressions.ArithOp.TheVariants as arith

@@ -1,5 +1,5 @@
 -- The tokens of a text, up to where it breaks.
-use Rattle.std.specs.Prelude.{◌≡◌, ℕ, ◌-◌, ◌<◌, ◌≤◌, List, [], ◌∷◌, length, take, drop, Option, Some, None}
+use Rattle.std.specs.Prelude.{◌≡◌, ℕ, ◌<◌, ◌≤◌, List, [], ◌∷◌, length, Option, Some, None}
 use Rattle.std.specs.Str.{IsCharBoundary}
 use Rattle.sx_lex.specs.Tokens.{AreTokens, BreaksBehind, kind_of}
 use Rattle.sx_lex.specs.declared.kinds.Token.{Token}

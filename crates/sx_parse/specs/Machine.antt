@@ -14,9 +14,8 @@ use Rattle.sx_parse.specs.declared.lexemes.Lexeme.{Lexeme}
 use Rattle.sx_parse.specs.declared.lexemes.Lexeme.TheVariants as lexeme
 use Rattle.sx_parse.specs.declared.lexemes.StepPrefix.{StepPrefix}
 use Rattle.sx_parse.specs.declared.lexemes.StepPrefix.TheVariants as prefix
-use Rattle.sx_parse.specs.declared.lexemes.Test.{Test}
 use Rattle.sx_parse.specs.declared.lexemes.Test.TheVariants as test
-use Rattle.sx_parse.specs.Grammar.{operator_of, level, left_level, casting_level, prefix_level, prefix_floor, prefix_allowed, names_axis, is_function, takes_name, introduces, returns, begins_step, allows, Tree, literal, dot, parent, root, variable, step, empty, parens, call, called, filter, comma, prefixed, binary, cast, choice, bind, Bindings, first, also, binder_of}
+use Rattle.sx_parse.specs.Grammar.{level, left_level, casting_level, prefix_level, prefix_floor, names_axis, takes_name, introduces, returns, begins_step, allows, Tree, literal, dot, parent, root, variable, step, empty, parens, call, called, filter, comma, prefixed, binary, cast, choice, bind, Bindings, first, also, binder_of}
 
 -- bindings that have begun: with a word, or behind others and a comma
 pub data Given : Type 0 where

@@ -19,7 +19,7 @@ use Rattle.sx_parse.specs.Nodes.{nodes}
 use Rattle.sx_parse.specs.Numbers.{Name}
 use Rattle.sx_parse.specs.Roles.{roles}
 use Rattle.sx_parse.specs.Says.{says, alternatives}
-use Rattle.sx_parse.specs.Templates.{Piece, fixed, inner, written, all_written, ArePieces, Ends, Breaks}
+use Rattle.sx_parse.specs.Templates.{Piece, fixed, inner, written, all_written, ArePieces, Breaks}
 
 -- a text is read as this expression, its constructs numbered from a number on, and its names are added to these
 pub record IsSaid (scope : Bindings) (text : List ℕ) (line : ℕ) (old : List Name) (n : ℕ) (new : List Name) (m : ℕ) (e : Expr) : Type 0 where

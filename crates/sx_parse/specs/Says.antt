@@ -1,5 +1,5 @@
 -- The expression that a derivation says. Parentheses leave nothing behind; constructs have the number 0 until they are numbered.
-use Rattle.std.specs.Prelude.{◌≡◌, ℕ, suc, Bool, true, false, ◌==◌, List, [], ◌∷◌, ◌++◌, slice_get, slice_index_or, bytes_eq, codes, Option, Some, None, Result, Ok, Err, if◌then◌else◌}
+use Rattle.std.specs.Prelude.{ℕ, Bool, true, false, List, [], ◌∷◌, ◌++◌, slice_get, slice_index_or, bytes_eq, codes, Option, Some, None, Result, Ok, Err, if◌then◌else◌}
 use Rattle.sx_atoms.specs.declared.atoms.Atom.{Atom}
 use Rattle.sx_atoms.specs.declared.atoms.Atom.TheVariants as atom
 use Rattle.sx_atoms.specs.declared.atoms.AtomType.{AtomType}

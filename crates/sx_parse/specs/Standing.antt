@@ -3,7 +3,6 @@ use Rattle.std.specs.Prelude.{ℕ, suc, List, [], ◌∷◌, ◌++◌}
 use Rattle.sx_parse.specs.declared.nodes.Node.{Node}
 use Rattle.sx_parse.specs.declared.roles.Role.{Role}
 use Rattle.sx_parse.specs.declared.roles.Role.TheVariants as role
-use Rattle.sx_parse.specs.Grammar.{root}
 use Rattle.sx_parse.specs.Machine.{Given, begun, behind, Stack, bottom, pending, more, signed, paren, arguments, predicate, condition, branch, otherwise, binding, body, State, want, fresh, slash, named, dollar, axis, kind, kind_name, have, comma_bound, binder_dollar, binder_name, casting, casting_as, conditioned}
 use Rattle.sx_parse.specs.Nodes.{nodes, value_nodes}
 use Rattle.sx_parse.specs.Roles.{roles, binding_roles, prefix_roles, inner_role}

@@ -32,8 +32,12 @@ mod steps;
 mod stops;
 pub mod template_laws;
 mod templates;
+#[cfg(test)]
+mod tests;
+mod value_templates;
 mod words;
 
 pub use expressions::parse_expr;
 pub use faults::{Numbering, SyntaxFault};
 pub use patterns::parse_pattern;
+pub use value_templates::parse_avt;

@@ -1,4 +1,4 @@
-use Rattle.std.proofs.Common.{◌∙◌, List, ℕ, [], refl, ap, sym, subst}
+use Rattle.std.proofs.Common.{◌∙◌, [], refl, ap, sym, subst}
 use Rattle.std.proofs.lemmas.Option.{slice_get_past, slice_get_read}
 use Rattle.std.specs.Option.{option_map_or}
 use Rattle.sx_lex.specs.declared.kinds.Token.{Token}

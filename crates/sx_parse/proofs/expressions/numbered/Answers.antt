@@ -1,4 +1,4 @@
-use Rattle.std.proofs.Common.{rules, arith}
+use Rattle.std.proofs.Common.{arith}
 use Rattle.sx_parse.proofs.Bounds.{few_constructs, on_ok}
 use Rattle.sx_parse.proofs.expressions.numbered.Goals as goal
 

@@ -1,4 +1,3 @@
-use Rattle.std.proofs.Common.{rules, sym, ◌∙◌}
 use Rattle.sx_parse.specs.Says.{Meaning}
 use Rattle.sx_parse.proofs.LiteralNodes.{literals_in}
 use Rattle.sx_parse.proofs.expressions.said.Goals as goal

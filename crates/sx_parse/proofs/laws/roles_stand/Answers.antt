@@ -1,4 +1,3 @@
-use Rattle.sx_parse.proofs.Final.{whole_read, stopped_at, stopped_end}
 use Rattle.sx_parse.proofs.Behind.{run_stands}
 use Rattle.sx_parse.proofs.laws.roles_stand.Goals as goal
 

@@ -1,5 +1,5 @@
 use Rattle.std.proofs.Common.{◌≡◌, ◌∙◌, ℕ, List, take, ap, sym, subst, arith}
-use Rattle.sx_lex.specs.Tokens.{AreTokens, BreaksAt}
+use Rattle.sx_lex.specs.Tokens.{AreTokens}
 use Rattle.sx_lex.proofs.Breaks.{front_tokens, front_breaks, front_cut}
 use Rattle.sx_lex.proofs.Unique.{whole_or_broken}
 use Rattle.sx_parse.proofs.lexing.tokens_before.Goals as goal

@@ -1,4 +1,4 @@
-use Rattle.std.proofs.Common.{ap, ◌∙◌, arith, length}
+use Rattle.std.proofs.Common.{ap, arith, length}
 use Rattle.sx_parse.proofs.Refusals.{few_lexemes}
 use Rattle.sx_parse.proofs.parsing.fault_in.Goals as goal
 

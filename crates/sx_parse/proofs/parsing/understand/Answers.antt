@@ -1,4 +1,4 @@
-use Rattle.std.proofs.Common.{rules, length, sym, ◌∙◌, ap, arith}
+use Rattle.std.proofs.Common.{length, sym, ◌∙◌, ap, arith}
 use Rattle.sx_parse.proofs.Refusals.{few_lexemes, refused_first, refused_there, read_whole, stop_within}
 use Rattle.sx_parse.proofs.parsing.understand.Goals as goal
 use Rattle.sx_parse.proofs.parsing.understand.Goals.{in-Some-default, in-None-Some, in-None-None}

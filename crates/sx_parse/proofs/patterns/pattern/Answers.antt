@@ -1,5 +1,5 @@
-use Rattle.std.proofs.Common.{rules, suc, ◌+◌, ◌≤◌, refl, ap, ◌∙◌, arith}
-use Rattle.sx_parse.proofs.Bounds.{few_alternatives, on_ok}
+use Rattle.std.proofs.Common.{arith}
+use Rattle.sx_parse.proofs.Bounds.{few_alternatives}
 use Rattle.sx_parse.proofs.patterns.pattern.Goals as goal
 
 pub number_parts-requires : goal.number_parts-requires

@@ -1,4 +1,4 @@
-use Rattle.std.proofs.Common.{◌≡◌, ◌∙◌, true, false, eqb, ap, sym}
+use Rattle.std.proofs.Common.{◌∙◌, eqb, ap, sym}
 use Rattle.std.specs.List.{list_any}
 use Rattle.std.specs.Option.{unwrap_or}
 use Rattle.sx_parse.specs.Lexemes.{words, found}
