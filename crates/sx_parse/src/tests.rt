@@ -1,5 +1,7 @@
 // Texts, and what they are read as or why they are refused. What is expected was worked out from the grammar of XPath 3.1
 // (A.1), from that of patterns and value templates (XSLT 3.0, 5.5 and 5.6), and from the limits.
+ghost use Rattle.std.specs.Prelude.{◌≡◌};
+
 mod limits;
 mod numbers;
 mod patterns;
@@ -29,7 +31,9 @@ fn bindings(alloc: Global) -> Result<Scope, AllocError> {
 }
 
 // The number from which constructs are counted, and the line that they have.
-fn begin() -> Numbering {
+fn begin() -> Numbering
+    ensures { result.next ≡ 5 }
+{
     Numbering { next: 5, line: 9 }
 }
 
