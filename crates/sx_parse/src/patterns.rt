@@ -1,5 +1,5 @@
 // Patterns.
-ghost use Rattle.std.specs.Prelude.{◌≡◌, ℕ, suc, ◌<◌, ◌≤◌, ◌+◌, ◌*◌, ◌^◌, true, length, IfOk, IfErr, OnOk, MatchResult};
+ghost use Rattle.std.specs.Prelude.{◌≡◌, ℕ, ◌<◌, ◌≤◌, ◌+◌, ◌*◌, ◌^◌, true, length, IfOk, IfErr, OnOk, MatchResult};
 ghost use Rattle.sx_names.specs.Numbering.{KeepsPlaces};
 ghost use Rattle.sx_parse.specs.Answers.{IsFaulty};
 ghost use Rattle.sx_parse.specs.Parsed.{IsPattern, IsPatternOf};
@@ -65,7 +65,8 @@ fn pattern(
     requires short { length text.now ≤ 4096 }
     requires room { at.old.next < 2 ^ 63 }
     ensures says { IfOk result (IsPatternOf scope.now text.now names.old names.new at.old at.new) }
-    ensures grows { OnOk result (at.new.next ≤ at.old.next + suc (2 * length text.now)) }
+    ensures grows { OnOk result (at.new.next ≤ at.old.next + 2 * length text.now) }
+    ensures line { at.new.line ≡ at.old.line }
     ensures kept { KeepsPlaces names.old names.new }
 {
     let expr = said(alloc, scope, names, text, understood, at.line)?;
@@ -95,8 +96,9 @@ pub fn parse_pattern(
 ) -> Result<Result<Pattern, SyntaxFault>, AllocError>
     requires { at.old.next < 2 ^ 62 }
     ensures exactly { IfOk result (λ r. MatchResult r (IsPattern scope.now s.now names.old names.new at.old at.new) (IsFaulty true scope.now s.now)) }
-    ensures grows { OnOk result (at.new.next ≤ at.old.next + suc (2 * length s.now)) }
+    ensures grows { OnOk result (at.new.next ≤ at.old.next + 2 * length s.now) }
     ensures refused { IfOk result (λ r. IfErr r (λ fault. (at.new ≡ at.old) × (names.new ≡ names.old))) }
+    ensures line { at.new.line ≡ at.old.line }
     ensures kept { KeepsPlaces names.old names.new }
 {
     if is_too_long(s) {
