@@ -1,6 +1,5 @@
 pub mod Tables
 pub mod Parts
-pub mod Literals
 pub mod Quotes
 pub mod Failing
 pub mod Naming
@@ -9,7 +8,6 @@ pub mod Braces
 pub mod FixedText
 pub mod Pieces
 pub mod OneTemplate
-pub mod Cuts
 pub mod Pending
 pub mod Complete
 pub mod Joining

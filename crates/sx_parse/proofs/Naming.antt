@@ -9,11 +9,10 @@ use Rattle.std.specs.declared.alloc.AllocError.{AllocError}
 use Rattle.sx_lex.specs.declared.kinds.Token.{Token}
 use Rattle.sx_names.specs.Numbering.{IsDistinct, IsNumbered}
 use Rattle.sx_chars.specs.Names.{local_of}
-use Rattle.sx_parse.specs.Checks.{Bindings, name_uri}
+use Rattle.sx_parse.specs.Checks.{Bindings, name_uri, or_none}
 use Rattle.sx_parse.specs.Lexemes.{text_of}
 use Rattle.sx_parse.specs.Naming.{names_with, number_with}
 use Rattle.sx_parse.specs.Numbers.{Name, same_name, number_in, is_in, with_name, with_names, expanded, names_among, numbers_among}
-use Rattle.sx_parse.specs.Says.{or_none}
 use Rattle.sx_parse.specs.declared.roles.Role.{Role}
 use Rattle.sx_parse.specs.declared.roles.Role.TheVariants as role
 use Rattle.sx_parse.proofs.Failing.{cut_at}

@@ -7,8 +7,9 @@ use Rattle.sx_tree.specs.declared.steps.Axis.TheVariants as axis
 use Rattle.sx_tree.specs.declared.steps.NodeTest.TheVariants as node_test
 use Rattle.sx_parse.specs.declared.nodes.Node.{Node}
 use Rattle.sx_parse.specs.declared.nodes.Node.TheVariants as node
+use Rattle.sx_parse.specs.Checks.{text_at}
 use Rattle.sx_parse.specs.Literals.{IsLiteral}
-use Rattle.sx_parse.specs.Says.{Meaning, made, number_at, spelled, token_kind_at, any_type, step_of, step_axis, node_test_of, literal_atom, type_at, root_of, begun_by, joined_by, cast_by, bound_by, whole, filtered, call_of}
+use Rattle.sx_parse.specs.Says.{Meaning, made, number_at, token_kind_at, any_type, step_of, step_axis, node_test_of, literal_atom, type_at, root_of, begun_by, joined_by, cast_by, bound_by, whole, filtered, call_of}
 
 -- the operands on top, and what is below them
 abbrev pub top : List (List Expr) → List Expr
@@ -51,7 +52,7 @@ built m (n ∷ ns) s = built m ns (put m n s)
 
 -- the token at a place is a literal
 abbrev pub IsLiteralAt : Meaning → ℕ → Type 0
-IsLiteralAt m place = IsLiteral (token_kind_at m place) (spelled m place)
+IsLiteralAt m place = IsLiteral (token_kind_at m place) (text_at m.text m.tokens place)
 
 -- a node, if it is a literal, stands for a token that is one
 abbrev pub IsLiteralIn : Meaning → Node → Type 0

@@ -45,6 +45,11 @@ uri_with default scope (b ∷ bs) = bound scope (b ∷ bs)
 abbrev pub name_uri : Bindings → List ℕ → Option (List ℕ)
 name_uri scope text = uri_with [] scope (prefix_of text)
 
+-- a namespace, and the empty text where there is none
+abbrev pub or_none : Option (List ℕ) → List ℕ
+or_none None = []
+or_none (Some uri) = uri
+
 -- the namespace of the name of a function
 abbrev pub function_uri : Bindings → List ℕ → Option (List ℕ)
 function_uri scope text = uri_with fn_uri scope (prefix_of text)

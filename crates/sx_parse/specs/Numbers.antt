@@ -4,9 +4,8 @@ use Rattle.sx_chars.specs.Names.{local_of}
 use Rattle.sx_lex.specs.declared.kinds.Token.{Token}
 use Rattle.sx_parse.specs.declared.roles.Role.{Role}
 use Rattle.sx_parse.specs.declared.roles.Role.TheVariants as role
-use Rattle.sx_parse.specs.Checks.{Bindings, name_uri}
+use Rattle.sx_parse.specs.Checks.{Bindings, name_uri, or_none}
 use Rattle.sx_parse.specs.Lexemes.{text_of}
-use Rattle.sx_parse.specs.Says.{or_none}
 
 -- a name: its namespace and its local name
 abbrev pub Name : Type 0

@@ -39,7 +39,7 @@ use Rattle.sx_parse.specs.declared.lexemes.StepPrefix.{StepPrefix}
 use Rattle.sx_parse.specs.declared.lexemes.StepPrefix.TheVariants as prefix
 use Rattle.sx_parse.specs.declared.lexemes.Test.{Test}
 use Rattle.sx_parse.specs.declared.lexemes.Test.TheVariants as test
-use Rattle.sx_parse.specs.Checks.{Bindings as Scope, name_uri, function_of, type_named, literal_of, text_at}
+use Rattle.sx_parse.specs.Checks.{Bindings as Scope, name_uri, or_none, function_of, type_named, literal_of, text_at}
 use Rattle.sx_parse.specs.Grammar.{axis_of, Tree, literal, dot, parent, root, variable, step, empty, parens, call, called, filter, comma, prefixed, binary, cast, choice, bind, Bindings, first, also, binder_of}
 use Rattle.sx_parse.specs.Nodes.{takes_more}
 
@@ -55,13 +55,6 @@ pub record Meaning : Type 0 where
 -- the number of the name of the token at a place
 abbrev pub number_at : Meaning → ℕ → ℕ
 number_at m place = slice_index_or m.numbers place 0
-
-abbrev pub spelled : Meaning → ℕ → List ℕ
-spelled m place = text_at m.text m.tokens place
-
-abbrev pub or_none : Option (List ℕ) → List ℕ
-or_none None = []
-or_none (Some uri) = uri
 
 -- the type of a variable, and of the current item or group, before types are looked at
 abbrev pub any_type : Ty
@@ -109,7 +102,7 @@ kind_test kind_word.Element = node_test.Element None
 kind_test kind_word.Attribute = node_test.Attribute None
 
 abbrev pub named_kind_test : Meaning → KindWord → ℕ → NodeTest
-named_kind_test m kind_word.ProcessingInstruction q = node_test.Pi (Some (spelled m q))
+named_kind_test m kind_word.ProcessingInstruction q = node_test.Pi (Some (text_at m.text m.tokens q))
 named_kind_test m kind_word.Element q = node_test.Element (Some (number_at m q))
 named_kind_test m kind_word.Attribute q = node_test.Attribute (Some (number_at m q))
 named_kind_test m k q = kind_test k
@@ -117,7 +110,7 @@ named_kind_test m k q = kind_test k
 abbrev pub node_test_of : Meaning → Test → NodeTest
 node_test_of m (test.Named w p) = node_test.Name (number_at m p)
 node_test_of m test.Any = node_test.AnyName
-node_test_of m (test.Wild p) = wild_test m.scope (spelled m p)
+node_test_of m (test.Wild p) = wild_test m.scope (text_at m.text m.tokens p)
 node_test_of m (test.Kind k p) = kind_test k
 node_test_of m (test.KindOf k p w q) = named_kind_test m k q
 
@@ -138,21 +131,22 @@ or_empty_text (Ok a) = a
 or_empty_text (Err c) = atom.Str []
 
 abbrev pub literal_atom : Meaning → ℕ → Atom
-literal_atom m place = or_empty_text (literal_of (token_kind_at m place) (spelled m place))
+literal_atom m place = or_empty_text (literal_of (token_kind_at m place) (text_at m.text m.tokens place))
 
 abbrev pub or_true : Option Function → Function
 or_true None = function.Seq seq_fn.True
 or_true (Some f) = f
 
 abbrev pub called_function : Meaning → ℕ → Function
-called_function m place = or_true (function_of m.scope (spelled m place))
+called_function m place = or_true (function_of m.scope (text_at m.text m.tokens place))
 
 abbrev pub or_untyped : Option AtomType → AtomType
 or_untyped None = atom_type.Untyped
 or_untyped (Some t) = t
 
 abbrev pub type_at : Meaning → ℕ → AtomType
-type_at m place = or_untyped (type_named (or_none (name_uri m.scope (spelled m place))) (local_of (spelled m place)))
+type_at m place =
+    or_untyped (type_named (or_none (name_uri m.scope (text_at m.text m.tokens place))) (local_of (text_at m.text m.tokens place)))
 
 -- ---- what joins operands
 

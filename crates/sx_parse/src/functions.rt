@@ -115,6 +115,13 @@ pub(crate) fn name_uri<'a>(scope: &'a Scope, name: &str) -> Option<&'a str>
     uri_with("", scope, split_name(name).0)
 }
 
+/// The namespace of such a name, and the empty text where its prefix is not bound.
+pub(crate) fn uri_or_none<'a>(scope: &'a Scope, name: &str) -> &'a str
+    ensures { result.now ≡ spec.or_none (spec.name_uri scope.now name.now) }
+{
+    name_uri(scope, name).unwrap_or("")
+}
+
 /// The namespace of the name of a function, if its prefix is bound.
 pub(crate) fn function_uri<'a>(scope: &'a Scope, name: &str) -> Option<&'a str>
     ensures { option_copied result ≡ spec.function_uri scope.now name.now }

@@ -5,7 +5,8 @@ ghost use Rattle.sx_parse.specs.Built.{IsLiteralAt};
 ghost use Rattle.sx_parse.specs.Says as spec;
 ghost use Rattle.sx_parse.specs.Wording.{IsCut, meaning_of};
 
-use crate::functions::{function_of, literal, name_uri, type_named};
+use crate::checks::text_at;
+use crate::functions::{function_of, literal, type_named, uri_or_none};
 use sqlite_items::at;
 use std::alloc::{AllocError, Global};
 use sx_atoms::{Atom, AtomType, SeqFn, Text};
@@ -39,12 +40,9 @@ impl Wording<'_> {
     /// The text of the token at a place.
     pub(crate) fn spelled(&self, place: u32) -> &str
         requires { IsCut self.now }
-        ensures { result.now ≡ spec.spelled (meaning_of self.now) place }
+        ensures { result.now ≡ checks.text_at self.now.text.now self.now.tokens.now place }
     {
-        match at(self.tokens, place as usize) {
-            Some(token) => &self.text[token.start as usize..token.end as usize],
-            None => "",
-        }
+        text_at(self.text, self.tokens, place)
     }
 
     fn kind_at(&self, place: u32) -> TokenKind
@@ -90,15 +88,5 @@ impl Wording<'_> {
             Some(named) => named,
             None => AtomType::Untyped,
         }
-    }
-}
-
-/// The namespace of a name, and the empty one where its prefix is not bound.
-pub(crate) fn uri_or_none<'a>(scope: &'a Scope, name: &str) -> &'a str
-    ensures { result.now ≡ spec.or_none (checks.name_uri scope.now name.now) }
-{
-    match name_uri(scope, name) {
-        Some(uri) => uri,
-        None => "",
     }
 }

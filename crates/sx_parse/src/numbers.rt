@@ -1,13 +1,11 @@
 // The numbers of the names of an expression.
 ghost use Rattle.std.specs.Prelude.{◌≡◌, IfOk};
 ghost use Rattle.sx_names.specs.Numbering.{KeepsPlaces};
-ghost use Rattle.sx_parse.specs.Checks as checks;
 ghost use Rattle.sx_parse.specs.Lexing.{AreParts};
 ghost use Rattle.sx_parse.specs.Naming.{names_with, number_with};
 ghost use Rattle.sx_parse.specs.Numbers.{expanded, names_among, number_in, numbers_among, with_name, with_names};
-ghost use Rattle.sx_parse.specs.Says.{or_none};
 
-use crate::functions::name_uri;
+use crate::functions::uri_or_none;
 use crate::lexing::token_text;
 use crate::roles::Role;
 use sqlite_items::Items;
@@ -58,11 +56,4 @@ fn number_name(scope: &Scope, names: &mut Names, text: &str) -> Result<u64, Allo
     ensures kept { KeepsPlaces names.old names.new }
 {
     names.intern(uri_or_none(scope, text), split_name(text).1)
-}
-
-/// The namespace of a name, which is the empty text where its prefix is not bound.
-fn uri_or_none<'a>(scope: &'a Scope, name: &str) -> &'a str
-    ensures { result.now ≡ or_none (checks.name_uri scope.now name.now) }
-{
-    name_uri(scope, name).unwrap_or("")
 }

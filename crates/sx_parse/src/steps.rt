@@ -5,8 +5,9 @@ ghost use Rattle.sx_parse.specs.Says as spec;
 ghost use Rattle.sx_parse.specs.Wording.{IsCut, meaning_of};
 
 use crate::forms::made_of_none;
+use crate::functions::uri_or_none;
 use crate::lexemes::{KindWord, StepPrefix, Test, Word};
-use crate::meanings::{Wording, uri_or_none};
+use crate::meanings::Wording;
 use std::alloc::{AllocError, Global};
 use sx_chars::split_name;
 use sx_kinds::{ConstructKind, Expr, ExprForm};
