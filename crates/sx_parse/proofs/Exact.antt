@@ -1,7 +1,7 @@
 -- Reading is exact: the one derivation, or the first token at which none goes on.
 use Rattle.std.proofs.Common.{◌≡◌, ℕ, suc, ◌+◌, ◌<◌, ◌≤◌, Bool, List, [], ◌∷◌, ◌++◌, length, take, Option, Some, None, Result, Ok, Err, MatchResult, refl, ap, sym, ◌∙◌, arith}
 use Rattle.sx_parse.specs.declared.lexemes.Lexeme.{Lexeme}
-use Rattle.sx_parse.specs.Grammar.{Tree, Derives, IsReading, IsFault}
+use Rattle.sx_parse.specs.Grammar.{Tree, Derives, IsFault}
 use Rattle.sx_parse.specs.Machine.{State, start, run, answer, and_then, read, ended}
 use Rattle.sx_parse.proofs.Running.{accept}
 use Rattle.sx_parse.proofs.Complete.{complete}
@@ -73,7 +73,7 @@ outcome : (ts : List Lexeme) (s : State) (k : ℕ) → IsSound s → Outcome s k
 outcome [] s k h = at_end (ended s) s k h refl
 outcome (t ∷ ts) s k h = turn (read s t) s t ts k h refl (step_goes s t h) (λ n m. outcome ts n (suc k) m)
 
-same_some : (o : Option Tree) (c d : Tree) → o ≡ Some c → o ≡ Some d → c ≡ d
+pub same_some : (o : Option Tree) (c d : Tree) → o ≡ Some c → o ≡ Some d → c ≡ d
 same_some o c d e f = cc
 
 none_some : {A : Type 0} (o : Option Tree) (c : Tree) → o ≡ None → o ≡ Some c → A
@@ -82,8 +82,13 @@ none_some o c e f = absurd cc
 pub derived : (p : Bool) (ts : List Lexeme) (c : Tree) → accept (start p) ts ≡ Some c → Derives p ts c
 derived p ts c a = let x = sound p ts (start p) c refl tt a in record { fits = x.fits; tokens_are = x.tokens_are }
 
-found : (p : Bool) (ts : List Lexeme) (c : Tree) → Derives p ts c → accept (start p) ts ≡ Some c
+pub found : (p : Bool) (ts : List Lexeme) (c : Tree) → Derives p ts c → accept (start p) ts ≡ Some c
 found p ts c d = ap (accept (start p)) (sym d.tokens_are) ∙ complete p c d.fits
+
+-- a derivation of these tokens, and their only one
+pub record IsReading (p : Bool) (ts : List Lexeme) (t : Tree) : Type 0 where
+  pub derives : Derives p ts t
+  pub only : (u : Tree) → Derives p ts u → u ≡ t
 
 pub reading : (p : Bool) (ts : List Lexeme) (c : Tree) → accept (start p) ts ≡ Some c → IsReading p ts c
 reading p ts c a = record { derives = derived p ts c a; only = λ u d. same_some (accept (start p) ts) u c (found p ts u d) a }

@@ -16,6 +16,7 @@ pub mod Behind
 pub mod Sound
 pub mod Ends
 pub mod Exact
+pub mod OneAnswer
 pub mod Parallel
 pub mod Refusals
 pub mod Final

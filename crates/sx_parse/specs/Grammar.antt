@@ -315,11 +315,6 @@ pub record Begins (p : Bool) (ts : List Lexeme) : Type 0 where
   pub tree : Tree
   pub derives : Derives p (ts ++ rest) tree
 
--- a derivation of these tokens, and their only one
-pub record IsReading (p : Bool) (ts : List Lexeme) (t : Tree) : Type 0 where
-  pub derives : Derives p ts t
-  pub only : (u : Tree) → Derives p ts u → u ≡ t
-
 -- the first token at which no reading goes on: those before it begin a readable list; with it, where one stands there, they begin
 -- none, and where they end there, they are none themselves
 pub record IsFault (p : Bool) (ts : List Lexeme) (k : ℕ) : Type 0 where
