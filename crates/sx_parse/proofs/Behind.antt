@@ -1,10 +1,10 @@
 -- What was read before any further tokens stands in each derivation that goes on with them.
-use Rattle.std.proofs.Common.{◌≡◌, ℕ, suc, ◌+◌, Bool, false, List, [], ◌∷◌, ◌++◌, length, take, Option, Some, None, Ok, refl, ap, sym, ◌∙◌, append-nil, arith}
+use Rattle.std.proofs.Common.{◌≡◌, ℕ, suc, ◌+◌, Bool, false, List, [], ◌∷◌, ◌++◌, length, take, Option, Some, None, refl, ap, sym, ◌∙◌, append-nil, arith}
 use Rattle.std.proofs.Math.Seq.{take-append_seam}
 use Rattle.sx_parse.specs.declared.lexemes.Lexeme.{Lexeme}
 use Rattle.sx_parse.specs.declared.roles.Role.{Role}
 use Rattle.sx_parse.specs.Grammar.{Tree, Derives}
-use Rattle.sx_parse.specs.Machine.{State, named, start, read, ended, answer, and_then, run}
+use Rattle.sx_parse.specs.Machine.{State, named, start, read, ended}
 use Rattle.sx_parse.specs.Reading.{turns, IsQuiet}
 use Rattle.sx_parse.specs.Nodes.{nodes}
 use Rattle.sx_parse.specs.Roles.{roles}
@@ -93,21 +93,3 @@ stands_whole p ts s sound b t e =
       roles_are = sym (ended_roles s t e);
       nodes_are = sym (ended_nodes s t e);
     }
-
--- ---- reading with a count
-
-answered : (k : ℕ) (o : Option Tree) (t : Tree) → answer k o ≡ Ok t → o ≡ Some t
-answered k None t e = absurd cc
-answered k (Some u) t e = cc
-
-runs_step : (o : Option State) (k : ℕ) (ls : List Lexeme) (t : Tree) → ((next : State) → run next (suc k) ls ≡ Ok t → accept next ls ≡ Some t) →
-    and_then k o (λ next. run next (suc k) ls) ≡ Ok t → bind o (λ next. accept next ls) ≡ Some t
-runs_step None k ls t f e = absurd cc
-runs_step (Some next) k ls t f e = f next e
-
-runs_accept : (s : State) (k : ℕ) (ls : List Lexeme) (t : Tree) → run s k ls ≡ Ok t → accept s ls ≡ Some t
-runs_accept s k [] t e = answered k (ended s) t e
-runs_accept s k (l ∷ ls) t e = runs_step (read s l) k ls t (λ next r. runs_accept next (suc k) ls t r) e
-
-pub run_stands : (s : State) (k : ℕ) (ls : List Lexeme) (t : Tree) → run s k ls ≡ Ok t → IsQuiet ls → state_roles s ≡ take (length (state_roles s)) (roles 0 t)
-run_stands s k ls t e q = front_taken (length (state_roles s)) (state_roles s) (roles 0 t) refl (kept s ls t (runs_accept s k ls t e) q)

@@ -39,7 +39,7 @@ reached (l ∷ ts) s u h e = reached_step (read s l) s l ts u (step_goes s l h) 
 
 -- ---- the last token
 
-last_of : (b : Bool) (xs : List Lexeme) (l : Lexeme) → ends_in_name (l ∷ []) ≡ b → ends_in_name (xs ++ l ∷ []) ≡ b
+pub last_of : (b : Bool) (xs : List Lexeme) (l : Lexeme) → ends_in_name (l ∷ []) ≡ b → ends_in_name (xs ++ l ∷ []) ≡ b
 last_of b [] l e = e
 last_of b (x ∷ []) l e = e
 last_of b (x ∷ y ∷ ys) l e = last_of b (y ∷ ys) l e

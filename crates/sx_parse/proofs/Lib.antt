@@ -20,6 +20,7 @@ pub mod OneAnswer
 pub mod Parallel
 pub mod Refusals
 pub mod Final
+pub mod OneText
 pub mod Reached
 pub mod Kept
 pub mod Following

@@ -1,10 +1,11 @@
 // What a caller relies on, said of the definitions.
-ghost use Rattle.std.specs.Prelude.{◌≡◌, ◌⊎◌, ℕ, Bool, List, take, length, Ok};
+ghost use Rattle.std.specs.Prelude.{◌≡◌, ◌⊎◌, ℕ, Bool, List};
+ghost use Rattle.std.specs.Str.{IsUtf8};
+ghost use Rattle.sx_lex.specs.declared.kinds.Token.{Token as AnyToken};
+ghost use Rattle.sx_parse.specs.Answers.{IsRead, IsRefused};
+ghost use Rattle.sx_parse.specs.Checks.{Bindings};
 ghost use Rattle.sx_parse.specs.Grammar.{Derives, IsFault, Tree};
-ghost use Rattle.sx_parse.specs.Machine.{State, run};
-ghost use Rattle.sx_parse.specs.Reading.{IsQuiet};
-ghost use Rattle.sx_parse.specs.Roles.{roles};
-ghost use Rattle.sx_parse.specs.Standing.{state_roles};
+ghost use Rattle.sx_parse.specs.declared.faults.SyntaxFault.{SyntaxFault as AnyFault};
 ghost use Rattle.sx_parse.specs.declared.lexemes.Lexeme.{Lexeme as AnyLexeme};
 
 /// A list of tokens has a derivation or a fault, and not both; it has one derivation at most, and one fault.
@@ -15,7 +16,9 @@ pub fn reading_is_exact()
     ensures either { (p : Bool) (ts : List AnyLexeme) (t : Tree) (k : ℕ) → Derives p ts t → IsFault p ts k → ⊥ }
 {}
 
-/// What tokens are by themselves they are in each derivation that goes on with them, where the next token turns no name.
-pub fn roles_stand()
-    ensures { (s : State) (k : ℕ) (rest : List AnyLexeme) (t : Tree) → run s k rest ≡ Ok t → IsQuiet rest → state_roles s ≡ take (length (state_roles s)) (roles 0 t) }
+/// A text has one reading at most, and one refusal, and not both.
+pub fn one_answer()
+    ensures reading { (p : Bool) (scope : Bindings) (text : List ℕ) (ts us : List AnyToken) (t u : Tree) → IsRead p scope text ts t → IsRead p scope text us u → (ts ≡ us) × (t ≡ u) }
+    ensures either { (p : Bool) (scope : Bindings) (text : List ℕ) (ts : List AnyToken) (t : Tree) (fault : AnyFault) → IsRead p scope text ts t → IsRefused p scope text fault → ⊥ }
+    ensures refusal { (p : Bool) (scope : Bindings) (text : List ℕ) (f g : AnyFault) → IsUtf8 text → IsRefused p scope text f → IsRefused p scope text g → f ≡ g }
 {}
