@@ -9,7 +9,7 @@ use std::alloc::{AllocError, Global};
 use sx_arguments::Positions;
 use sx_atoms::Text;
 
-// How many characters a text has.
+/// How many characters a text has.
 pub fn length(s: &str) -> usize
     ensures { result ≡ length (chars s.now) }
 {
@@ -24,7 +24,7 @@ fn part(alloc: Global, s: &str, from: usize, to: usize) -> Result<String, AllocE
     s.chars().skip(from).take(to - from).collect(alloc)
 }
 
-// The characters at the positions that are selected.
+/// The characters at the positions that are selected.
 pub fn cut(alloc: Global, s: &str, span: &Positions) -> Result<Text, AllocError>
     ensures { IfOk result (λ t. t ≡ encode_utf8_all (at_positions (selects span.now) 1 (chars s.now))) }
 {
@@ -57,7 +57,7 @@ fn partner(c: char, m: &str, t: &str) -> Option<char>
     }
 }
 
-// A text whose characters are translated from those of m to those of t.
+/// A text whose characters are translated from those of m to those of t.
 pub fn translated(alloc: Global, s: &str, m: &str, t: &str) -> Result<Text, AllocError>
     ensures { IfOk result (λ r. r ≡ encode_utf8_all (spec.translated (chars m.now) (chars t.now) (chars s.now))) }
 {

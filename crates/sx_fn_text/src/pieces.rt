@@ -40,7 +40,7 @@ fn put(out: &mut String, apart: bool, c: char) -> Result<bool, AllocError>
     Ok(false)
 }
 
-// The words of a text with one space between two.
+/// The words of a text with one space between two.
 pub fn normalized(alloc: Global, s: &str) -> Result<Text, AllocError>
     ensures { IfOk result (λ t. t ≡ encode_utf8_all (spec.normalized (chars s.now))) }
 {
@@ -65,7 +65,7 @@ fn append_print(alloc: Global, out: &mut String, atom: &Atom) -> Result<(), Allo
     }
 }
 
-// What is printed of atoms, with a separator between two.
+/// What is printed of atoms, with a separator between two.
 pub fn join(alloc: Global, atoms: &[Atom], separator: &str) -> Result<Text, AllocError>
     ensures { IfOk result (λ t. t ≡ encode_utf8_all (prints_joined (chars separator.now) atoms.now)) }
 {
@@ -99,7 +99,7 @@ fn append_argument(
     }
 }
 
-// What is printed of the arguments, one behind another.
+/// What is printed of the arguments, one behind another.
 pub fn concat(alloc: Global, args: &[Atoms]) -> Result<Result<Text, Code>, AllocError>
     ensures { IfOk result (λ answer. answer ≡ bytes_concatenated args.now) }
 {
