@@ -1,5 +1,5 @@
 // Settling expressions.
-ghost use Rattle.std.specs.Prelude.{◌≡◌, [], Ok, List, Result, IfOk, OnErr, map};
+ghost use Rattle.std.specs.Prelude.{◌≡◌, ◌∷◌, ◌++◌, [], Ok, List, Result, IfOk, OnErr, OnOk, map};
 ghost use Rattle.sx_atoms.specs.declared.error_codes.Code.{Code as AnyCode};
 ghost use Rattle.sx_kinds.specs.Settled as spec;
 ghost use Rattle.sx_kinds.specs.Types.{below, each, focus as focus_of, type_of, typing};
@@ -58,47 +58,69 @@ fn form_after(
     }
 }
 
-// An expression with these parts, and with its own fields where it has a type; and what is known of it.
-fn finished(
+// Puts an expression with these parts behind others, with its own fields where it has a type. The answer is what is known of
+// it. It is kept apart, as are the next two, so that a level of an expression takes little of the stack.
+#[inline(never)]
+fn finish(
     alloc: Global,
     e: &Expr,
     here: &Place<'_>,
     parts: Exprs,
-    known: Result<Parts, Code>,
-) -> Result<(Expr, Result<Typing, Code>), AllocError>
-    ensures { (before : Result (List AnyTyping) AnyCode) (outer : AnyTy) → known ≡ together before
+    known: &Result<Parts, Code>,
+    done: &mut Exprs,
+) -> Result<Result<Typing, Code>, AllocError>
+    ensures { (before : Result (List AnyTyping) AnyCode) (outer : AnyTy) → known.now ≡ together before
         → each (out-Expr e.now).form here.now.context [] (map typing parts) ≡ before → here.now.context ≡ below (out-Expr e.now).deep outer
-        → IfOk result (λ r. (r.0 ≡ spec.finished (out-Expr e.now) (place_of here.now) parts (typing (spec.with_parts (out-Expr e.now) parts) outer))
-        × (r.1 ≡ typing r.0 outer)) }
+        → IfOk result (λ answer. let made = spec.finished (out-Expr e.now) (place_of here.now) parts (typing (spec.with_parts (out-Expr e.now) parts) outer) in
+        (done.new ≡ done.old ++ made ∷ []) × (answer ≡ typing made outer)) }
 {
     let context = &here.context;
-    let answer = answered(&e.form, e.deep, context, &known);
+    let answer = answered(&e.form, e.deep, context, known);
     let deep = deep_after(e.deep, &answer);
     let form = form_after(alloc, &e.form, here, &answer)?;
-    let settled = answered(&form, deep, context, &known);
+    let settled = answered(&form, deep, context, known);
     let construct = e.construct;
-    Ok((
-        Expr {
-            construct,
-            deep,
-            form,
-            parts,
-        },
-        settled,
-    ))
+    done.push(Expr {
+        construct,
+        deep,
+        form,
+        parts,
+    })?;
+    Ok(settled)
 }
 
-// A part settled behind a first one, and what is known of it.
+// Puts a copy of an expression behind others.
+#[inline(never)]
+fn keep(alloc: Global, e: &Expr, done: &mut Exprs) -> Result<(), AllocError>
+    ensures { OnOk result (done.new ≡ done.old ++ e.now ∷ []) }
+{
+    done.push(Expr::copy(alloc, e)?)
+}
+
+// What is known of parts and of one more.
+#[inline(never)]
+fn known_more(known: &Result<Parts, Code>, answer: &Result<Typing, Code>) -> Result<Parts, Code>
+    ensures { (ts : List AnyTyping) → known.now ≡ together (Ok ts) → result ≡ together (spec.and_one ts answer.now) }
+{
+    match (known, answer) {
+        (Ok(parts), Ok(t)) => Ok(and_one(parts, t)),
+        (Ok(_), Err(code)) => Err(*code),
+        (Err(code), _) => Err(*code),
+    }
+}
+
+// Puts a part settled behind those in front of it, of which the first is known. The answer is what is known of the part.
 #[cycle(settling)]
-fn settled_inside(
+fn settle_inside(
     alloc: Global,
     part: &Expr,
     form: &ExprForm,
     here: &Place<'_>,
     first: Option<Typing>,
-) -> Result<(Expr, Result<Typing, Code>), AllocError>
-    ensures { IfOk result (λ r. (r.0 ≡ spec.settled part.now (spec.inner form.now (place_of here.now) first))
-        × (r.1 ≡ typing r.0 (focus_of form.now here.now.context first))) }
+    done: &mut Exprs,
+) -> Result<Result<Typing, Code>, AllocError>
+    ensures { IfOk result (λ answer. let made = spec.settled part.now (spec.inner form.now (place_of here.now) first) in
+        (done.new ≡ done.old ++ made ∷ []) × (answer ≡ typing made (focus_of form.now here.now.context first))) }
 {
     let context = focus(form, &here.context, first);
     match bound(form, first) {
@@ -110,7 +132,7 @@ fn settled_inside(
                 group: here.group,
                 scope: &scope,
             };
-            settled(alloc, part, &place)
+            settle_in(alloc, part, &place, done)
         }
         None => {
             let place = Place {
@@ -119,44 +141,47 @@ fn settled_inside(
                 group: here.group,
                 scope: here.scope,
             };
-            settled(alloc, part, &place)
+            settle_in(alloc, part, &place, done)
         }
     }
 }
 
-// A part behind these, and what is known of these and it.
+// Puts a part behind those in front of it: settled, or as it was behind one that has a code. The answer is what is known then.
 #[cycle(settling)]
-fn settled_part(
+fn settle_part(
     alloc: Global,
     part: &Expr,
     form: &ExprForm,
     here: &Place<'_>,
     known: &Result<Parts, Code>,
-) -> Result<(Expr, Result<Parts, Code>), AllocError>
+    done: &mut Exprs,
+) -> Result<Result<Parts, Code>, AllocError>
     ensures { (before : Result (List AnyTyping) AnyCode) → known.now ≡ together before
-        → IfOk result (λ r. (r.0 ≡ next_part form.now (place_of here.now) before part.now)
-        × (r.1 ≡ together (known_after form.now (place_of here.now) before part.now))) }
+        → IfOk result (λ after. (done.new ≡ done.old ++ next_part form.now (place_of here.now) before part.now ∷ [])
+        × (after ≡ together (known_after form.now (place_of here.now) before part.now))) }
 {
     match known {
-        Err(code) => Ok((Expr::copy(alloc, part)?, Err(*code))),
+        Err(code) => {
+            keep(alloc, part, done)?;
+            Ok(Err(*code))
+        }
         Ok(before) => {
-            let (settled, answer) = settled_inside(alloc, part, form, here, before.first)?;
-            match answer {
-                Ok(t) => Ok((settled, Ok(and_one(before, &t)))),
-                Err(code) => Ok((settled, Err(code))),
-            }
+            let answer = settle_inside(alloc, part, form, here, before.first, done)?;
+            Ok(known_more(known, &answer))
         }
     }
 }
 
-// An expression settled in a place, and what is known of it then.
+// Puts an expression, settled in a place, behind others. The answer is what is known of it then.
 #[cycle(settling)]
-fn settled(
+fn settle_in(
     alloc: Global,
     e: &Expr,
     place: &Place<'_>,
-) -> Result<(Expr, Result<Typing, Code>), AllocError>
-    ensures { IfOk result (λ r. (r.0 ≡ spec.settled e.now (place_of place.now)) × (r.1 ≡ typing r.0 place.now.context)) }
+    done: &mut Exprs,
+) -> Result<Result<Typing, Code>, AllocError>
+    ensures { IfOk result (λ answer. let made = spec.settled e.now (place_of place.now) in
+        (done.new ≡ done.old ++ made ∷ []) × (answer ≡ typing made place.now.context)) }
 {
     let here = Place {
         context: paths::below(e.deep, &place.context),
@@ -167,11 +192,9 @@ fn settled(
     let mut parts = Items::new(alloc);
     let mut known = Ok(none());
     for part in e.parts.as_slice() {
-        let (next, after) = settled_part(alloc, part, &e.form, &here, &known)?;
-        parts.push(next)?;
-        known = after;
+        known = settle_part(alloc, part, &e.form, &here, &known, &mut parts)?;
     }
-    finished(alloc, e, &here, parts, known)
+    finish(alloc, e, &here, parts, &known, done)
 }
 
 /// Writes into an expression what the types of what stands around it say: the type of each variable and of each call of
@@ -198,7 +221,11 @@ pub fn settle(
         group: *group,
         scope: &scope,
     };
-    let (new, answer) = settled(alloc, e, &place)?;
+    let mut done = Items::new(alloc);
+    let answer = settle_in(alloc, e, &place, &mut done)?;
+    let Some(new) = done.pop() else {
+        unreachable!()
+    };
     *e = new;
     match answer {
         Ok(_) => Ok(Ok(())),

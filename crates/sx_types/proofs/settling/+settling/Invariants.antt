@@ -8,8 +8,8 @@ use Rattle.sx_types.specs.Places.{place_of}
 use Rattle.sx_types.specs.Settling.{together}
 use Rattle.sx_types.proofs.settling.+settling.Given as goal
 
-abbrev pub invariant-settled-loop-part : goal.invariant-settled-loop-part
-invariant-settled-loop-part l =
+abbrev pub invariant-settle_in-loop-part : goal.invariant-settle_in-loop-part
+invariant-settle_in-loop-part l =
     let form = (out-Expr l.e).form in
     (before : Result (List Typing) Code) × (l.known ≡ together before) ×
     (each form l.here.context [] (map typing l.parts) ≡ before) ×

@@ -1,10 +1,16 @@
-use Rattle.std.proofs.Common.{◌≡◌, List, ap, sym, ◌∙◌}
+use Rattle.std.proofs.Common.{◌≡◌, List, [], ◌∷◌, ◌++◌, ap, sym, ◌∙◌}
 use Rattle.sx_kinds.specs.Settled.{IsSettled, place, settled}
 use Rattle.sx_kinds.specs.declared.expressions.Expr.{Expr}
 use Rattle.sx_kinds.specs.declared.types.Ty.{Ty}
 use Rattle.sx_kinds.specs.declared.types.VarType.{VarType}
 use Rattle.sx_types.proofs.Again.{stays_settled}
 use Rattle.sx_types.proofs.settling.settle.Goals as goal
+
+-- the one that was put into an empty list is the one that is taken out
+taken : (rest : List Expr) (new made : Expr) → rest ++ new ∷ [] ≡ made ∷ [] → new ≡ made
+taken [] new made e = cc
+taken (x ∷ []) new made e = absurd cc
+taken (x ∷ y ∷ rest) new made e = absurd cc
 
 stays : (old new : Expr) (context group : Ty) (vars scope : List VarType) → scope ≡ vars → new ≡ settled old (place context group scope) → IsSettled new (place context group vars)
 stays old new context group vars scope same is =
@@ -14,8 +20,14 @@ stays old new context group vars scope same is =
 
 pub returns-in-Ok-clause-stays : goal.returns-in-Ok-clause-stays
 returns-in-Ok-clause-stays c =
-    stays c.args.e.now c.in_ok-new.new c.args.context.now c.args.group.now c.args.vars.now c.as_slice.result.now c.as_slice.ensures c.in_ok-new.ensures.0
+    let made = settled c.args.e.now (place c.args.context.now c.args.group.now c.as_slice.result.now) in
+    let one = sym c.in-Some.ensures ∙ c.in_ok-answer.ensures.0 ∙ ap (λ (xs : List Expr). xs ++ made ∷ []) c.new-done.ensures in
+    stays c.args.e.now c.in-Some.new c.args.context.now c.args.group.now c.args.vars.now c.as_slice.result.now c.as_slice.ensures
+    (taken c.pop.new.self c.in-Some.new made one)
 
-pub returns-in-Err-clause-stays : goal.returns-in-Err-clause-stays
-returns-in-Err-clause-stays c =
-    stays c.args.e.now c.in_ok-new.new c.args.context.now c.args.group.now c.args.vars.now c.as_slice.result.now c.as_slice.ensures c.in_ok-new.ensures.0
+pub returns-clause-stays : goal.returns-clause-stays
+returns-clause-stays c =
+    let made = settled c.args.e.now (place c.args.context.now c.args.group.now c.as_slice.result.now) in
+    let one = sym c.in-Some.ensures ∙ c.in_ok-answer.ensures.0 ∙ ap (λ (xs : List Expr). xs ++ made ∷ []) c.new-done.ensures in
+    stays c.args.e.now c.in-Some.new c.args.context.now c.args.group.now c.args.vars.now c.as_slice.result.now c.as_slice.ensures
+    (taken c.pop.new.self c.in-Some.new made one)
