@@ -1,2 +1,4 @@
 pub mod Settled
+pub mod Spines
 pub mod Types
+pub mod formers

@@ -1,6 +1,8 @@
 // The constructs of expressions and patterns.
 ghost use Rattle.std.specs.Prelude.{◌≡◌, IfOk};
+ghost use Rattle.sx_kinds.specs.declared.expressions.Expr.TheViews.{out-Expr};
 
+use crate::branches::Branches;
 use crate::constructs::Construct;
 use crate::types::Ty;
 use sqlite_items::Items;
@@ -97,7 +99,6 @@ pub enum ExprForm {
 }
 
 /// An expression. Its parts stand in the order in which they are written, predicates last.
-#[derive(Drop)]
 pub struct Expr {
     pub construct: Construct,
     /// Whether it stands behind `//`.
@@ -106,8 +107,29 @@ pub struct Expr {
     pub parts: Exprs,
 }
 
+// A loop along the first parts: a chain of operators is as deep as it is long, and need not fit into the stack.
+impl Drop for Expr {
+    fn drop(mut self) {
+        loop {
+            let Expr {
+                construct: _,
+                deep: _,
+                form: _,
+                mut parts,
+            } = self;
+            let Some(mut first) = parts.pop() else {
+                return;
+            };
+            while let Some(before) = parts.pop() {
+                first = before;
+            }
+            self = first;
+        }
+    }
+}
+
 /// Expressions one behind another.
-pub type Exprs = Items<Expr>;
+pub type Exprs = Branches<Expr>;
 
 /// A pattern. Each alternative is `/` alone, a step or a path; these are not numbered, and their predicates are (XSLT 3.0, 5.5).
 #[derive(Drop)]
@@ -212,27 +234,19 @@ impl ExprForm {
 }
 
 impl Expr {
-    /// A copy of an expression.
-    #[cycle(copying_expressions)]
-    pub fn copy(alloc: Global, e: &Expr) -> Result<Expr, AllocError>
-        ensures { IfOk result (λ copy. copy ≡ e.now) }
+    /// The construct of an expression, whether it stands behind `//`, what it is, and its parts.
+    pub fn into_fields(self) -> (Construct, Deep, ExprForm, Exprs)
+        ensures construct { result.0 ≡ (out-Expr self).construct }
+        ensures deep { result.1 ≡ (out-Expr self).deep }
+        ensures form { result.2 ≡ (out-Expr self).form }
+        ensures parts { result.3 ≡ (out-Expr self).parts }
     {
-        Ok(Expr {
-            construct: e.construct,
-            deep: e.deep,
-            form: ExprForm::copy(alloc, &e.form)?,
-            parts: copy_exprs(alloc, e.parts.as_slice())?,
-        })
+        let Expr {
+            construct,
+            deep,
+            form,
+            parts,
+        } = self;
+        (construct, deep, form, parts)
     }
-}
-
-#[cycle(copying_expressions)]
-fn copy_exprs(alloc: Global, exprs: &[Expr]) -> Result<Exprs, AllocError>
-    ensures { IfOk result (λ copy. copy ≡ exprs.now) }
-{
-    let mut copy = Items::new(alloc);
-    for e in exprs {
-        copy.push(Expr::copy(alloc, e)?)?;
-    }
-    Ok(copy)
 }

@@ -1,13 +1,16 @@
 //! Stylesheets as data: their modes, their templates and what these hold.
 #![tactic(auto)]
 
+mod branches;
 mod constructs;
+mod copies;
 mod expressions;
 mod sheets;
 #[cfg(test)]
 mod tests;
 mod types;
 
+pub use branches::Branches;
 pub use constructs::{Body, Construct, ConstructKind, Instr, InstrForm, NamePattern, copy_body};
 pub use expressions::{ArithOp, AvtPart, AvtParts, Deep, Expr, ExprForm, Exprs, Function, Pattern};
 pub use sheets::{Mode, Modes, OnNoMatch, Sheet, Template, Templates};
