@@ -1,6 +1,7 @@
-// Copies of a stylesheet.
+// Copies of a stylesheet and of expressions.
 use crate::{
-    Construct, ConstructKind, Instr, InstrForm, Mode, NamePattern, OnNoMatch, Sheet, Template,
+    Construct, ConstructKind, Deep, Expr, ExprForm, Exprs, Instr, InstrForm, Mode, NamePattern,
+    OnNoMatch, Sheet, Template,
 };
 use sqlite_items::Items;
 use std::alloc::{AllocError, Global};
@@ -63,5 +64,40 @@ fn a_copy_has_the_constructs_of_its_original(rt: HostRuntime) -> Result<(), Allo
             assert_eq!(rt; instr.body.len(), 1);
         }
     }
+    Ok(())
+}
+
+// So many signs before the context item.
+fn signed(alloc: Global, signs: u64) -> Result<Expr, AllocError> {
+    let mut e = Expr {
+        construct: construct(0, 1, ConstructKind::Dot),
+        deep: Deep::No,
+        form: ExprForm::Dot,
+        parts: Exprs::new(alloc),
+    };
+    for number in 0..signs {
+        let mut parts = Exprs::new(alloc);
+        parts.push(e)?;
+        e = Expr {
+            construct: construct(number, 1, ConstructKind::Unary),
+            deep: Deep::No,
+            form: ExprForm::Unary { minus: true },
+            parts,
+        };
+    }
+    Ok(e)
+}
+
+#[test]
+fn a_long_chain_is_copied_and_dropped(rt: HostRuntime) -> Result<(), AllocError> {
+    let copy = Expr::copy(rt.alloc(), &signed(rt.alloc(), 4095)?)?;
+    let mut signs = 0_u64;
+    let mut e = &copy;
+    while let Some(first) = e.parts.as_slice().first() {
+        signs = signs.wrapping_add(1);
+        assert_eq!(rt; e.construct.number.wrapping_add(signs), 4095);
+        e = first;
+    }
+    assert_eq!(rt; signs, 4095);
     Ok(())
 }

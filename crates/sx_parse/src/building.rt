@@ -12,7 +12,6 @@ use crate::meanings::Wording;
 use crate::nodes::Node;
 use crate::operands::Operands;
 use crate::steps::{step, step_on};
-use sqlite_items::Items;
 use std::alloc::{AllocError, Global};
 use sx_atoms::AtomType;
 use sx_kinds::{ArithOp, ConstructKind, Expr, ExprForm, Exprs, Origin, Ty, TyKind};
@@ -396,7 +395,7 @@ fn put(alloc: Global, words: &Wording, node: Node, stack: &mut Operands) -> Resu
             made_of_none(alloc, words, ConstructKind::Empty, ExprForm::Empty),
         ),
         Node::Parens => put_parens(alloc, words, stack),
-        Node::Call(place) => stack.put(alloc, call(words, place, Items::new(alloc))),
+        Node::Call(place) => stack.put(alloc, call(words, place, Exprs::new(alloc))),
         Node::Called(place) => put_called(alloc, words, place, stack),
         Node::Filter { more } => put_filter(alloc, words, more, stack),
         Node::Comma => put_comma(alloc, words, stack),

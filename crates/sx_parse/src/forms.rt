@@ -4,7 +4,6 @@ ghost use Rattle.sx_parse.specs.Says as spec;
 ghost use Rattle.sx_parse.specs.Wording.{meaning_of};
 
 use crate::meanings::Wording;
-use sqlite_items::Items;
 use std::alloc::{AllocError, Global};
 use sx_kinds::{Construct, ConstructKind, Deep, Expr, ExprForm, Exprs};
 
@@ -12,7 +11,7 @@ use sx_kinds::{Construct, ConstructKind, Deep, Expr, ExprForm, Exprs};
 pub(crate) fn reversed(alloc: Global, mut exprs: Exprs) -> Result<Exprs, AllocError>
     ensures { IfOk result (λ es. es ≡ reverse exprs) }
 {
-    let mut back = Items::new(alloc);
+    let mut back = Exprs::new(alloc);
     while let Some(expr) = exprs.pop() {
         back.push(expr)?;
     }
@@ -23,7 +22,7 @@ pub(crate) fn reversed(alloc: Global, mut exprs: Exprs) -> Result<Exprs, AllocEr
 pub(crate) fn one(alloc: Global, a: Expr) -> Result<Exprs, AllocError>
     ensures { IfOk result (λ es. es ≡ a ∷ []) }
 {
-    let mut exprs = Items::new(alloc);
+    let mut exprs = Exprs::new(alloc);
     exprs.push(a)?;
     Ok(exprs)
 }
@@ -71,12 +70,7 @@ pub(crate) fn made_of_two(
 pub(crate) fn deepened(expr: Expr) -> Expr
     ensures { result ≡ spec.deepened expr }
 {
-    let Expr {
-        construct,
-        deep: _,
-        form,
-        parts,
-    } = expr;
+    let (construct, _, form, parts) = expr.into_fields();
     Expr {
         construct,
         deep: Deep::Written,
@@ -89,12 +83,7 @@ pub(crate) fn deepened(expr: Expr) -> Expr
 pub(crate) fn with_part(expr: Expr, part: Expr) -> Result<Expr, AllocError>
     ensures { IfOk result (λ e. e ≡ spec.with_part expr part) }
 {
-    let Expr {
-        construct,
-        deep,
-        form,
-        mut parts,
-    } = expr;
+    let (construct, deep, form, mut parts) = expr.into_fields();
     parts.push(part)?;
     Ok(Expr {
         construct,
@@ -138,5 +127,5 @@ pub(crate) fn made_of_none(
 ) -> Expr
     ensures { result ≡ spec.made (meaning_of words.now) kind form [] }
 {
-    made(words, kind, form, Items::new(alloc))
+    made(words, kind, form, Exprs::new(alloc))
 }

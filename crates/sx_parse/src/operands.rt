@@ -59,7 +59,7 @@ impl Operands {
     {
         match self.lists.pop() {
             Some(list) => list,
-            None => Items::new(alloc),
+            None => Exprs::new(alloc),
         }
     }
 

@@ -1,5 +1,4 @@
 // Expressions for tests, written with each operator behind its operands.
-use sqlite_items::Items;
 use std::alloc::{AllocError, Global};
 use sx_atoms::{Atom, AtomType, CmpOp, Dec, SeqFn, Text, TextFn};
 use sx_kinds::{
@@ -197,13 +196,13 @@ fn other(word: &str) -> (ExprForm, usize) {
 }
 
 fn operands(alloc: Global, stack: &mut Exprs, count: usize) -> Result<Exprs, AllocError> {
-    let mut reversed = Items::new(alloc);
+    let mut reversed = Exprs::new(alloc);
     for _ in 0..count {
         if let Some(e) = stack.pop() {
             reversed.push(e)?;
         }
     }
-    let mut parts = Items::new(alloc);
+    let mut parts = Exprs::new(alloc);
     for _ in 0..count {
         if let Some(e) = reversed.pop() {
             parts.push(e)?;
@@ -239,7 +238,7 @@ fn deepened(form: ExprForm, mut parts: Exprs) -> Result<Expr, AllocError> {
 
 fn combined(alloc: Global, stack: &mut Exprs, word: &str) -> Result<Expr, AllocError> {
     if let Some(form) = leaf(alloc, word)? {
-        return Ok(made(form, Items::new(alloc)));
+        return Ok(made(form, Exprs::new(alloc)));
     }
     let (form, count) = match operator(word) {
         Some(found) => found,
@@ -255,7 +254,7 @@ fn combined(alloc: Global, stack: &mut Exprs, word: &str) -> Result<Expr, AllocE
 
 /// The expression that is written so: `a 1 [` is `a[1]`, `. a //` is `.//a`.
 pub fn read(alloc: Global, text: &str) -> Result<Expr, AllocError> {
-    let mut stack = Items::new(alloc);
+    let mut stack = Exprs::new(alloc);
     for word in text.split(' ') {
         let e = combined(alloc, &mut stack, word)?;
         stack.push(e)?;

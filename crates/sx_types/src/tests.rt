@@ -502,3 +502,18 @@ fn what_stands_behind_a_code_is_as_it_was(rt: HostRuntime) -> Result<(), AllocEr
     assert_eq!(rt; settles_otherwise(rt.alloc(), COPIES)?, None);
     Ok(())
 }
+
+// A chain of operators is as deep as it is long.
+#[test]
+fn a_long_chain_is_settled(rt: HostRuntime) -> Result<(), AllocError> {
+    for operator in [" a /", " b //", " 1 +"] {
+        let mut text = String::from_str(rt.alloc(), "a")?;
+        for _ in 0..4095 {
+            text.push_str(operator)?;
+        }
+        let mut e = read(rt.alloc(), text.as_str())?;
+        assert_eq!(rt; settled(rt.alloc(), &mut e)?, None);
+        assert!(rt; type_of(&e, &ELEMENT).is_ok());
+    }
+    Ok(())
+}

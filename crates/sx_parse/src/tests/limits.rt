@@ -137,10 +137,10 @@ fn at_most_4096_bytes_are_read(rt: HostRuntime) -> Result<(), Fail> {
 
 // Operators without parentheses open nothing, and neither do commas and predicates.
 const CHAINS: &[Row] = &[
-    (("a+", 700, ""), "a", "read"),
+    (("a+", 2047, ""), "a", "read"),
     (("a,", 2047, ""), "a", "read"),
-    (("a/", 700, ""), "a", "read"),
-    (("-", 700, ""), "a", "read"),
+    (("a/", 2047, ""), "a", "read"),
+    (("-", 4095, ""), "a", "read"),
     (("", 1365, "[1]"), "a", "read"),
 ];
 
