@@ -8,16 +8,6 @@ ghost use Rattle.sx_kinds.specs.Spines.{front};
 use crate::expressions::{Expr, ExprForm, Exprs};
 use std::alloc::{AllocError, Global};
 
-// How many expressions are below this one, each the first part of the one above it; no more than can be counted.
-fn levels(mut e: &Expr) -> usize {
-    let mut count: usize = 0;
-    while let Some(first) = e.parts.as_slice().first() {
-        e = first;
-        count = count.saturating_add(1);
-    }
-    count
-}
-
 // The expression so many first parts below this one, or the last one on that way.
 fn below(mut e: &Expr, mut count: usize) -> &Expr
     ensures is { result.now ≡ front count e.now }
@@ -77,7 +67,7 @@ impl Expr {
     pub fn copy(alloc: Global, e: &Expr) -> Result<Expr, AllocError>
         ensures { IfOk result (λ copy. copy ≡ e.now) }
     {
-        let count = levels(e);
+        let count = e.levels();
         let last = copy_level(alloc, below(e, count), None)?;
         copy_up(alloc, e, count, last)
     }

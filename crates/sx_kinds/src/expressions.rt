@@ -1,5 +1,6 @@
 // The constructs of expressions and patterns.
-ghost use Rattle.std.specs.Prelude.{◌≡◌, IfOk};
+ghost use Rattle.std.specs.Prelude.{◌≡◌, ◌-◌, ◌^◌, min, IfOk};
+ghost use Rattle.sx_kinds.specs.Spines.{levels};
 ghost use Rattle.sx_kinds.specs.declared.expressions.Expr.TheViews.{out-Expr};
 
 use crate::branches::Branches;
@@ -248,5 +249,19 @@ impl Expr {
             parts,
         } = self;
         (construct, deep, form, parts)
+    }
+
+    /// How many first parts of an expression lie below one another: a chain of operators has as many as it is long. No more than
+    /// a `usize` counts.
+    pub fn levels(&self) -> usize
+        ensures { result ≡ min (levels self.now) (2 ^ 64 - 1) }
+    {
+        let mut count: usize = 0;
+        let mut e = self;
+        while let Some(first) = e.parts.as_slice().first() {
+            count = count.saturating_add(1);
+            e = first;
+        }
+        count
     }
 }
