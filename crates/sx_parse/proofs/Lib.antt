@@ -30,6 +30,7 @@ pub mod Built
 pub mod CutTemplates
 pub mod LiteralNodes
 pub mod Counted
+pub mod Raising
 pub mod Unions
 pub mod Bounds
 pub mod Within

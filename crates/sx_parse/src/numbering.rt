@@ -1,12 +1,28 @@
 // The numbers of constructs.
-ghost use Rattle.std.specs.Prelude.{◌≡◌, ◌+◌, ◌<◌, ◌^◌, map, IfOk, OnOk};
+ghost use Rattle.std.specs.Prelude.{◌≡◌, suc, false, ◌+◌, ◌<◌, ◌^◌, map, IfOk, OnOk};
+ghost use Rattle.sx_kinds.specs.declared.expressions.Expr.TheViews.{out-Expr};
 ghost use Rattle.sx_parse.specs.Numbered.{count, counts, in_order, is_path, numbered, numbers_in};
+ghost use Rattle.sx_parse.specs.Raised.{left_of, with_parts, whole, behind};
 
 use crate::faults::Numbering;
 use crate::forms::reversed;
 use sqlite_items::Items;
 use std::alloc::{AllocError, Global};
-use sx_kinds::{Construct, Expr, ExprForm, Exprs};
+use sx_kinds::{Construct, Deep, Expr, ExprForm, Exprs};
+
+// An expression that has its number; its parts get theirs one by one.
+#[derive(Drop)]
+struct Level {
+    construct: Construct,
+    deep: Deep,
+    form: ExprForm,
+    // the parts that are numbered
+    done: Exprs,
+    // the parts that are not numbered yet, the last one first
+    left: Exprs,
+    // whether the parts are parts of a pattern, outside predicates
+    outside: bool,
+}
 
 /// An expression whose constructs are numbered in document order: its own first, then those of its parts.
 pub(crate) fn number(alloc: Global, expr: Expr, at: &mut Numbering) -> Result<Expr, AllocError>
@@ -24,8 +40,79 @@ fn is_a_path(form: &ExprForm) -> bool
     matches!(form, ExprForm::Path { .. })
 }
 
-// An expression; outside predicates, where it is a part of a pattern there.
-#[cycle(numbering)]
+fn fields(expr: Expr) -> (Construct, Deep, ExprForm, Exprs)
+    ensures construct { result.0 ≡ (out-Expr expr).construct }
+    ensures deep { result.1 ≡ (out-Expr expr).deep }
+    ensures form { result.2 ≡ (out-Expr expr).form }
+    ensures parts { result.3 ≡ (out-Expr expr).parts }
+{
+    let Expr {
+        construct,
+        deep,
+        form,
+        parts,
+    } = expr;
+    (construct, deep, form, parts)
+}
+
+// The level of an expression: its own number is given, and none of its parts has one.
+fn opened(alloc: Global, expr: Expr, outside: bool, at: &mut Numbering) -> Result<Level, AllocError>
+    requires { at.old.next + (numbers_in expr outside).count < 2 ^ 64 }
+    ensures expr { IfOk result (λ l. whole l at.new.next ≡ (numbers_in expr outside).from at.old.next) }
+    ensures next { IfOk result (λ l. behind l at.new.next ≡ at.old.next + (numbers_in expr outside).count) }
+    ensures size { IfOk result (λ l. count expr ≡ suc (counts false (left_of l))) }
+    ensures line { at.new.line ≡ at.old.line }
+{
+    let (construct, deep, form, parts) = fields(expr);
+    let left = reversed(alloc, parts)?;
+    let done = Exprs::new(alloc);
+    if outside {
+        let outside = is_a_path(&form);
+        return Ok(Level {
+            construct,
+            deep,
+            form,
+            done,
+            left,
+            outside,
+        });
+    }
+    let construct = Construct {
+        number: at.next,
+        ..construct
+    };
+    at.next += 1;
+    Ok(Level {
+        construct,
+        deep,
+        form,
+        done,
+        left,
+        outside,
+    })
+}
+
+// The expression of a level whose parts are all numbered.
+fn closed(level: Level) -> Expr
+    ensures { result ≡ with_parts level level.done }
+{
+    let Level {
+        construct,
+        deep,
+        form,
+        done,
+        ..
+    } = level;
+    Expr {
+        construct,
+        deep,
+        form,
+        parts: done,
+    }
+}
+
+// An expression; outside predicates, where it is a part of a pattern there. A chain of operators is as deep as it is long, so the
+// levels lie in a list and not on the stack.
 fn number_in(
     alloc: Global,
     expr: Expr,
@@ -37,36 +124,24 @@ fn number_in(
     ensures next { OnOk result (at.new.next ≡ at.old.next + (numbers_in expr outside).count) }
     ensures line { at.new.line ≡ at.old.line }
 {
-    let Expr {
-        construct,
-        deep,
-        form,
-        parts,
-    } = expr;
-    if outside {
-        let parts = number_parts(alloc, parts, is_a_path(&form), at)?;
-        return Ok(Expr {
-            construct,
-            deep,
-            form,
-            parts,
-        });
+    let mut levels = Items::new(alloc);
+    let mut level = opened(alloc, expr, outside, at)?;
+    loop {
+        if let Some(part) = level.left.pop() {
+            let outside = level.outside;
+            levels.push(level)?;
+            level = opened(alloc, part, outside, at)?;
+            continue;
+        }
+        let made = closed(level);
+        let Some(outer) = levels.pop() else {
+            return Ok(made);
+        };
+        level = outer;
+        level.done.push(made)?;
     }
-    let construct = Construct {
-        number: at.next,
-        ..construct
-    };
-    at.next += 1;
-    let parts = number_parts(alloc, parts, false, at)?;
-    Ok(Expr {
-        construct,
-        deep,
-        form,
-        parts,
-    })
 }
 
-#[cycle(numbering)]
 pub(crate) fn number_parts(
     alloc: Global,
     parts: Exprs,
@@ -79,7 +154,7 @@ pub(crate) fn number_parts(
     ensures line { at.new.line ≡ at.old.line }
 {
     let mut left = reversed(alloc, parts)?;
-    let mut done = Items::new(alloc);
+    let mut done = Exprs::new(alloc);
     while let Some(part) = left.pop() {
         done.push(number_in(alloc, part, outside, at)?)?;
     }

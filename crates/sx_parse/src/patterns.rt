@@ -12,7 +12,7 @@ ghost use Rattle.sx_parse.specs.Unions.{is_union};
 
 use crate::expressions::{is_too_long, said, too_long};
 use crate::faults::{Numbering, SyntaxFault};
-use crate::forms::one;
+use crate::forms::reversed;
 use crate::numbering::number_parts;
 use crate::parsing::{Understood, understand};
 use std::alloc::{AllocError, Global};
@@ -36,20 +36,22 @@ fn parts_of(expr: Expr) -> Exprs
 pub(crate) fn alternatives(alloc: Global, expr: Expr) -> Result<Exprs, AllocError>
     ensures { IfOk result (λ es. (m : Meaning) (n : ℕ) (t : Tree) → Fits true n t → expr ≡ spec.says m t → es ≡ spec.alternatives m t) }
 {
-    let joined = is_a_union(&expr.form);
-    if !joined {
-        return one(alloc, expr);
+    let mut front = expr;
+    // the alternatives behind the front, the last one first
+    let mut behind = Exprs::new(alloc);
+    while is_a_union(&front.form) {
+        let mut parts = parts_of(front);
+        let Some(last) = parts.pop() else {
+            return Ok(parts);
+        };
+        let Some(first) = parts.pop() else {
+            return Ok(parts);
+        };
+        behind.push(last)?;
+        front = first;
     }
-    let mut parts = parts_of(expr);
-    let Some(last) = parts.pop() else {
-        return Ok(parts);
-    };
-    let Some(front) = parts.pop() else {
-        return Ok(parts);
-    };
-    let mut found = alternatives(alloc, front)?;
-    found.push(last)?;
-    Ok(found)
+    behind.push(front)?;
+    reversed(alloc, behind)
 }
 
 /// The pattern of a text that was read.
