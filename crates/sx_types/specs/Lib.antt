@@ -1,3 +1,4 @@
 pub mod Added
+pub mod Descent
 pub mod Places
 pub mod Settling

@@ -2,6 +2,7 @@
 #![tactic(auto)]
 
 mod calls;
+mod descent;
 mod forms;
 mod kinds;
 pub mod laws;

@@ -1,0 +1,40 @@
+// Going down an expression along its first parts, which is as deep as a chain of operators is long: by a loop, so that the
+// stack that is taken does not grow with it.
+ghost use Rattle.std.specs.Prelude.{◌≡◌, ◌-◌, ◌^◌, min};
+ghost use Rattle.sx_types.specs.Descent as spec;
+
+use crate::forms::focus;
+use crate::paths;
+use sx_kinds::{Expr, Ty};
+
+/// How many first parts of an expression lie below one another.
+pub fn levels(e: &Expr) -> usize
+    ensures { result ≡ min (spec.levels e.now) (2 ^ 64 - 1) }
+{
+    let mut count: usize = 0;
+    let mut at = e;
+    while let Some(first) = at.parts.as_slice().first() {
+        count = count.saturating_add(1);
+        at = first;
+    }
+    count
+}
+
+/// The expression that lies so many first parts below, or the last one, and the context that it stands in.
+pub fn fall<'a>(e: &'a Expr, outer: &Ty, n: usize) -> (&'a Expr, Ty)
+    ensures expr { result.0.now ≡ (spec.down n (spec.standing e.now outer.now)).expr }
+    ensures context { result.1 ≡ (spec.down n (spec.standing e.now outer.now)).context }
+{
+    let mut at = e;
+    let mut context = *outer;
+    let mut left = n;
+    while left > 0 {
+        let Some(first) = at.parts.as_slice().first() else {
+            return (at, context);
+        };
+        context = focus(&at.form, &paths::below(at.deep, &context), None);
+        at = first;
+        left -= 1;
+    }
+    (at, context)
+}
