@@ -1,6 +1,5 @@
 // The numbers of constructs.
 ghost use Rattle.std.specs.Prelude.{◌≡◌, suc, false, ◌+◌, ◌<◌, ◌^◌, map, IfOk, OnOk};
-ghost use Rattle.sx_kinds.specs.declared.expressions.Expr.TheViews.{out-Expr};
 ghost use Rattle.sx_parse.specs.Numbered.{count, counts, in_order, is_path, numbered, numbers_in};
 ghost use Rattle.sx_parse.specs.Raised.{left_of, with_parts, whole, behind};
 
@@ -40,21 +39,6 @@ fn is_a_path(form: &ExprForm) -> bool
     matches!(form, ExprForm::Path { .. })
 }
 
-fn fields(expr: Expr) -> (Construct, Deep, ExprForm, Exprs)
-    ensures construct { result.0 ≡ (out-Expr expr).construct }
-    ensures deep { result.1 ≡ (out-Expr expr).deep }
-    ensures form { result.2 ≡ (out-Expr expr).form }
-    ensures parts { result.3 ≡ (out-Expr expr).parts }
-{
-    let Expr {
-        construct,
-        deep,
-        form,
-        parts,
-    } = expr;
-    (construct, deep, form, parts)
-}
-
 // The level of an expression: its own number is given, and none of its parts has one.
 fn opened(alloc: Global, expr: Expr, outside: bool, at: &mut Numbering) -> Result<Level, AllocError>
     requires { at.old.next + (numbers_in expr outside).count < 2 ^ 64 }
@@ -63,7 +47,7 @@ fn opened(alloc: Global, expr: Expr, outside: bool, at: &mut Numbering) -> Resul
     ensures size { IfOk result (λ l. count expr ≡ suc (counts false (left_of l))) }
     ensures line { at.new.line ≡ at.old.line }
 {
-    let (construct, deep, form, parts) = fields(expr);
+    let (construct, deep, form, parts) = expr.into_fields();
     let left = reversed(alloc, parts)?;
     let done = Exprs::new(alloc);
     if outside {

@@ -28,7 +28,7 @@ fn is_a_union(form: &ExprForm) -> bool
 fn parts_of(expr: Expr) -> Exprs
     ensures { result ≡ (out-Expr expr).parts }
 {
-    let Expr { parts, .. } = expr;
+    let (_, _, _, parts) = expr.into_fields();
     parts
 }
 
