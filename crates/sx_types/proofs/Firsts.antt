@@ -17,7 +17,7 @@ use denote.Param.Weighed.{at_most, most}
 
 -- ---- levels
 
-levels_out : (e : Expr) → levels e ≡ above_first (map levels (out-Expr e).parts)
+pub levels_out : (e : Expr) → levels e ≡ above_first (map levels (out-Expr e).parts)
 unfolding levels
 levels_out e = fold_out-Expr ℕ (λ (x : Expr-F ℕ). above_first x.parts) e
 
@@ -105,6 +105,20 @@ part_smaller e behind items k i part cut all h is =
     let within = at_most size-Expr (out-Expr e).parts (k + i) part (omega (arith, long)) in
     omega (arith, size, within, all_smaller e)
 
+levels_by : (at : Standing) (x : Expr-F Expr) (parts : List Expr) → levels at.expr ≡ above_first (map levels parts) → levels at.expr ≤ levels (first_part at x parts).expr + 1
+levels_by at x [] h = omega arith
+levels_by at x (p ∷ ps) h = omega (arith, h)
+
+levels_down : (n : ℕ) (at : Standing) → levels at.expr ≤ levels (down n at).expr + n
+levels_down zero at = omega arith
+levels_down (suc n) at =
+    let h = levels_down n (one_down at) in
+    let k = levels_by at (out-Expr at.expr) (out-Expr at.expr).parts (levels_out at.expr) in
+    omega (arith, h, k)
+
+pub levels_below : (n : ℕ) (at : Standing) (e : Expr) → e ≡ (down n at).expr → levels at.expr ≤ levels e + n
+levels_below n at e is = subst (λ (x : Expr). levels at.expr ≤ levels x + n) (sym is) (levels_down n at)
+
 -- ---- what is known
 
 code_by : (at : Standing) (x : Expr-F Expr) (parts : List Expr) (code : Code) (rest : List Typing → Result Typing Code) →
@@ -134,13 +148,17 @@ module _ (n : ℕ) (at : Standing) (e : Expr) (context : Ty) (same : e ≡ (down
   pub known_at : (answer : Typing) → typing e context ≡ Ok answer → typing (down n at).expr (down n at).context ≡ Ok answer
   known_at answer h = sym (ap (λ (s : Standing). typing s.expr s.context) (standing_is (down n at) e context same here)) ∙ h
 
-  -- and what is known further below is so from there
+  -- what lies further below lies below that
+  pub down_rest : (m : ℕ) → n ≤ m → down (m - n) (standing e context) ≡ down m at
+  down_rest m h =
+      ap (down (m - n)) (standing_is (down n at) e context same here) ∙
+      sym (down_sum n (m - n) at) ∙
+      ap (λ (i : ℕ). down i at) (let is : n + (m - n) ≡ m = omega arith in is)
+
+  -- and what is known of it is so from there
   pub known_from : (m : ℕ) (answer : Typing) → n ≤ m → typing (down m at).expr (down m at).context ≡ Ok answer →
       typing (down (m - n) (standing e context)).expr (down (m - n) (standing e context)).context ≡ Ok answer
-  known_from m answer h k =
-      ap (λ (s : Standing). typing (down (m - n) s).expr (down (m - n) s).context) (standing_is (down n at) e context same here) ∙
-      ap (λ (s : Standing). typing s.expr s.context) (sym (down_sum n (m - n) at)) ∙
-      ap (λ (i : ℕ). typing (down i at).expr (down i at).context) (let is : n + (m - n) ≡ m = omega arith in is) ∙ k
+  known_from m answer h k = ap (λ (s : Standing). typing s.expr s.context) (down_rest m h) ∙ k
 
 -- ---- the first part alone
 

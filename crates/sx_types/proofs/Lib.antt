@@ -5,3 +5,4 @@ pub mod Firsts
 pub mod Known
 pub mod More
 pub mod Rewriting
+pub mod Rising

@@ -1,15 +1,17 @@
 -- How parts are settled one behind another.
-use Rattle.std.specs.Prelude.{List, Result, Ok, Err}
+use Rattle.std.specs.Prelude.{◌≡◌, List, [], ◌∷◌, ◌++◌, length, drop, map, Result, Ok, Err}
 use Rattle.sx_atoms.specs.Numbers.{◌>>=◌}
 use Rattle.sx_atoms.specs.declared.error_codes.Code.{Code}
-use Rattle.sx_kinds.specs.Settled.{Place, and_one, inner, settled}
-use Rattle.sx_kinds.specs.Types.{first_of, known_by, parts_of, typing}
+use Rattle.sx_kinds.specs.Settled.{Place, and_one, inner, settled, settled_parts, settling_of}
+use Rattle.sx_kinds.specs.Types.{below, each, first_of, known_by, parts_of, typing}
 use Rattle.sx_kinds.specs.declared.expressions.Deep.{Deep}
 use Rattle.sx_kinds.specs.declared.expressions.Expr.{Expr}
+use Rattle.sx_kinds.specs.declared.expressions.Expr.TheViews.{out-Expr}
 use Rattle.sx_kinds.specs.declared.expressions.ExprForm.{ExprForm}
 use Rattle.sx_kinds.specs.declared.types.Parts.{Parts}
 use Rattle.sx_kinds.specs.declared.types.Ty.{Ty}
 use Rattle.sx_kinds.specs.declared.types.Typing.{Typing}
+use Rattle.sx_types.specs.Descent.{Standing}
 
 -- what is known of parts together, or the first code of one
 abbrev pub together : Result (List Typing) Code → Result Parts Code
@@ -33,3 +35,23 @@ abbrev pub known_after : ExprForm → Place → Result (List Typing) Code → Ex
 known_after form here (Err code) part = Err code
 known_after form here (Ok ts) part =
     and_one ts (typing (settled part (inner form here (first_of ts))) (inner form here (first_of ts)).context)
+
+-- the place of the parts of an expression before any of them is known
+abbrev pub inside : Expr → Place → Place
+inside e outer = record outer { context = below (out-Expr e).deep outer.context }
+
+-- the first parts of an expression settled, and what is known of them: with the others settled behind them they are all
+abbrev pub IsBegun : Expr → Place → List Expr → Result Parts Code → Type 0
+IsBegun e outer parts known =
+    (before : Result (List Typing) Code) × (known ≡ together before) ×
+    (each (out-Expr e).form (inside e outer).context [] (map typing parts) ≡ before) ×
+    (parts ++ settled_parts (out-Expr e).form (inside e outer) before (map settling_of (drop (length parts) (out-Expr e).parts)) ≡
+    settled_parts (out-Expr e).form (inside e outer) (Ok []) (map settling_of (out-Expr e).parts))
+
+-- what lies below an expression in this place, settled where it stands
+abbrev pub settled_at : Place → Standing → Expr
+settled_at outer at = settled at.expr (record outer { context = at.context })
+
+-- that alone, and what is known of it
+abbrev pub IsSettledAt : Place → Standing → List Expr → Result Typing Code → Type 0
+IsSettledAt outer at parts known = (parts ≡ settled_at outer at ∷ []) × (known ≡ typing (settled_at outer at) at.context)

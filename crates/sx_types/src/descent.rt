@@ -1,5 +1,5 @@
-// Going down an expression along its first parts, which is as deep as a chain of operators is long: by a loop, so that the
-// stack that is taken does not grow with it.
+// Going down an expression along its first parts, which lie as deep as a chain of operators is long: by loops, so that it takes
+// no more of the stack. They are kept apart from what recurs, so that a level of that takes little of it.
 ghost use Rattle.std.specs.Prelude.{◌≡◌, ◌-◌, ◌^◌, min};
 ghost use Rattle.sx_types.specs.Descent as spec;
 
@@ -8,6 +8,7 @@ use crate::paths;
 use sx_kinds::{Expr, Ty};
 
 /// How many first parts of an expression lie below one another.
+#[inline(never)]
 pub fn levels(e: &Expr) -> usize
     ensures { result ≡ min (spec.levels e.now) (2 ^ 64 - 1) }
 {
@@ -21,6 +22,7 @@ pub fn levels(e: &Expr) -> usize
 }
 
 /// The expression that lies so many first parts below, or the last one, and the context that it stands in.
+#[inline(never)]
 pub fn fall<'a>(e: &'a Expr, outer: &Ty, n: usize) -> (&'a Expr, Ty)
     ensures expr { result.0.now ≡ (spec.down n (spec.standing e.now outer.now)).expr }
     ensures context { result.1 ≡ (spec.down n (spec.standing e.now outer.now)).context }

@@ -1,19 +1,20 @@
 // Settling expressions.
-ghost use Rattle.std.specs.Prelude.{◌≡◌, ◌∷◌, ◌++◌, [], Ok, List, Result, IfOk, OnErr, OnOk, map};
+ghost use Rattle.std.specs.Prelude.{◌≡◌, ◌<◌, ◌≤◌, ◌∷◌, ◌++◌, [], Ok, List, Result, IfOk, OnErr, OnOk, drop, map};
 ghost use Rattle.sx_atoms.specs.declared.error_codes.Code.{Code as AnyCode};
 ghost use Rattle.sx_kinds.specs.Settled as spec;
 ghost use Rattle.sx_kinds.specs.Types.{below, each, focus as focus_of, type_of, typing};
 ghost use Rattle.sx_kinds.specs.declared.expressions.Expr.TheViews.{out-Expr};
 ghost use Rattle.sx_kinds.specs.declared.types.Ty.{Ty as AnyTy};
 ghost use Rattle.sx_kinds.specs.declared.types.Typing.{Typing as AnyTyping};
+ghost use Rattle.sx_types.specs.Descent.{down, levels as levels_of, standing};
 ghost use Rattle.sx_types.specs.Places.{place_of};
-ghost use Rattle.sx_types.specs.Settling.{known_after, known_from, next_part, together};
+ghost use Rattle.sx_types.specs.Settling.{IsBegun, IsSettledAt, known_after, known_from, next_part, together};
 
+use crate::descent::{fall, levels};
 use crate::forms::{focus, known_by};
 use crate::parts::{and_one, none};
 use crate::paths;
 use crate::places::{Place, Scope, bound, deep_in, form_in};
-use sqlite_items::Items;
 use std::alloc::{AllocError, Global};
 use sx_atoms::Code;
 use sx_kinds::{Deep, Expr, ExprForm, Exprs, Parts, Ty, Typing, VarTypes};
@@ -59,7 +60,7 @@ fn form_after(
 }
 
 // Puts an expression with these parts behind others, with its own fields where it has a type. The answer is what is known of
-// it. It is kept apart, as are the next two, so that a level of an expression takes little of the stack.
+// it. It is kept apart, as are the next three, so that a level of an expression takes little of the stack.
 #[inline(never)]
 fn finish(
     alloc: Global,
@@ -107,6 +108,14 @@ fn known_more(known: &Result<Parts, Code>, answer: &Result<Typing, Code>) -> Res
         (Ok(_), Err(code)) => Err(*code),
         (Err(code), _) => Err(*code),
     }
+}
+
+// The parts behind the first ones.
+#[inline(never)]
+fn behind(parts: &[Expr], n: usize) -> &[Expr]
+    ensures { result.now ≡ drop n parts.entry.now }
+{
+    if n < parts.len() { &parts[n..] } else { &[] }
 }
 
 // Puts a part settled behind those in front of it, of which the first is known. The answer is what is known of the part.
@@ -172,6 +181,68 @@ fn settle_part(
     }
 }
 
+// Puts an expression, settled in a place, behind others, where its first parts may be settled and this is known of them. The
+// answer is what is known of it then.
+#[cycle(settling)]
+fn settle_level(
+    alloc: Global,
+    e: &Expr,
+    place: &Place<'_>,
+    mut parts: Exprs,
+    mut known: Result<Parts, Code>,
+    done: &mut Exprs,
+) -> Result<Result<Typing, Code>, AllocError>
+    requires { IsBegun e.now (place_of place.now) parts known }
+    ensures { IfOk result (λ answer. let made = spec.settled e.now (place_of place.now) in
+        (done.new ≡ done.old ++ made ∷ []) × (answer ≡ typing made place.now.context)) }
+{
+    let here = Place {
+        context: paths::below(e.deep, &place.context),
+        current: place.current,
+        group: place.group,
+        scope: place.scope,
+    };
+    for part in behind(e.parts.as_slice(), parts.as_slice().len()) {
+        known = settle_part(alloc, part, &e.form, &here, &known, &mut parts)?;
+    }
+    finish(alloc, e, &here, parts, &known, done)
+}
+
+// Puts an expression, settled in a place, behind others, where what lies so many first parts below is settled and this is
+// known of it. The answer is what is known of the whole. Halving keeps the calls within one another few.
+#[cycle(settling)]
+fn settle_rise(
+    alloc: Global,
+    e: &Expr,
+    place: &Place<'_>,
+    n: usize,
+    parts: Exprs,
+    known: Result<Typing, Code>,
+    done: &mut Exprs,
+) -> Result<Result<Typing, Code>, AllocError>
+    requires above { 0 < n }
+    requires within { n ≤ levels_of e.now }
+    requires below { IsSettledAt (place_of place.now) (down n (standing e.now place.now.context)) parts known }
+    ensures { IfOk result (λ answer. let made = spec.settled e.now (place_of place.now) in
+        (done.new ≡ done.old ++ made ∷ []) × (answer ≡ typing made place.now.context)) }
+{
+    if n == 1 {
+        let first = known_more(&Ok(none()), &known);
+        return settle_level(alloc, e, place, parts, first, done);
+    }
+    let half = n / 2;
+    let (middle, context) = fall(e, &place.context, half);
+    let here = Place {
+        context,
+        current: place.current,
+        group: place.group,
+        scope: place.scope,
+    };
+    let mut halfway = Exprs::new(alloc);
+    let answer = settle_rise(alloc, middle, &here, n - half, parts, known, &mut halfway)?;
+    settle_rise(alloc, e, place, half, halfway, answer, done)
+}
+
 // Puts an expression, settled in a place, behind others. The answer is what is known of it then.
 #[cycle(settling)]
 fn settle_in(
@@ -183,18 +254,27 @@ fn settle_in(
     ensures { IfOk result (λ answer. let made = spec.settled e.now (place_of place.now) in
         (done.new ≡ done.old ++ made ∷ []) × (answer ≡ typing made place.now.context)) }
 {
+    let n = levels(e);
+    if n == 0 {
+        return settle_level(alloc, e, place, Exprs::new(alloc), Ok(none()), done);
+    }
+    let (bottom, context) = fall(e, &place.context, n);
     let here = Place {
-        context: paths::below(e.deep, &place.context),
+        context,
         current: place.current,
         group: place.group,
         scope: place.scope,
     };
-    let mut parts = Items::new(alloc);
-    let mut known = Ok(none());
-    for part in e.parts.as_slice() {
-        known = settle_part(alloc, part, &e.form, &here, &known, &mut parts)?;
-    }
-    finish(alloc, e, &here, parts, &known, done)
+    let mut parts = Exprs::new(alloc);
+    let answer = settle_level(
+        alloc,
+        bottom,
+        &here,
+        Exprs::new(alloc),
+        Ok(none()),
+        &mut parts,
+    )?;
+    settle_rise(alloc, e, place, n, parts, answer, done)
 }
 
 /// Writes into an expression what the types of what stands around it say: the type of each variable and of each call of
@@ -221,7 +301,7 @@ pub fn settle(
         group: *group,
         scope: &scope,
     };
-    let mut done = Items::new(alloc);
+    let mut done = Exprs::new(alloc);
     let answer = settle_in(alloc, e, &place, &mut done)?;
     let Some(new) = done.pop() else {
         unreachable!()

@@ -11,6 +11,7 @@ use sx_atoms::Code;
 use sx_kinds::{Expr, Parts, Ty, Typing};
 
 // What is known of parts whose first one may be known, and the parts behind those.
+#[inline(never)]
 fn begun<'a>(parts: &'a [Expr], first: Option<Typing>) -> (Parts, &'a [Expr])
     ensures known { result.0 ≡ spec.parts_of (known_front first parts.entry.now) }
     ensures behind { result.1.now ≡ drop (length (known_front first parts.entry.now)) parts.entry.now }
