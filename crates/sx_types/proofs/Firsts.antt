@@ -11,7 +11,8 @@ use Rattle.sx_kinds.specs.declared.expressions.Expr.TheViews.{out-Expr, size-Exp
 use Rattle.sx_kinds.specs.declared.expressions.Expr.TheFolds.{fold_out-Expr}
 use Rattle.sx_kinds.specs.declared.types.Ty.{Ty}
 use Rattle.sx_kinds.specs.declared.types.Typing.{Typing}
-use Rattle.sx_types.specs.Descent.{IsKnown, Standing, above_first, down, first_part, known_front, levels, one_down, standing}
+use Rattle.sx_kinds.specs.Spines.{above_first, levels}
+use Rattle.sx_types.specs.Descent.{IsKnown, Standing, down, first_part, known_front, one_down, standing}
 use Rattle.sx_types.proofs.Known.{typing_out}
 use denote.Param.Weighed.{at_most, most}
 
@@ -20,20 +21,6 @@ use denote.Param.Weighed.{at_most, most}
 pub levels_out : (e : Expr) → levels e ≡ above_first (map levels (out-Expr e).parts)
 unfolding levels
 levels_out e = fold_out-Expr ℕ (λ (x : Expr-F ℕ). above_first x.parts) e
-
-above_some : (parts : List Expr) (first : Expr) → Some first ≡ slice_get parts 0 → above_first (map levels parts) ≡ suc (levels first)
-above_some [] first e = cc
-above_some (p ∷ ps) first e = ap (λ (q : Expr). suc (levels q)) (let is : p ≡ first = cc in is)
-
-above_none : (parts : List Expr) → None ≡ slice_get parts 0 → above_first (map levels parts) ≡ 0
-above_none [] e = refl
-above_none (p ∷ ps) e = cc
-
-pub levels_some : (e first : Expr) (parts : List Expr) → parts ≡ (out-Expr e).parts → Some first ≡ slice_get parts 0 → levels e ≡ suc (levels first)
-levels_some e first parts all is = levels_out e ∙ ap (λ (ps : List Expr). above_first (map levels ps)) (sym all) ∙ above_some parts first is
-
-pub levels_none : (e : Expr) (parts : List Expr) → parts ≡ (out-Expr e).parts → None ≡ slice_get parts 0 → levels e ≡ 0
-levels_none e parts all is = levels_out e ∙ ap (λ (ps : List Expr). above_first (map levels ps)) (sym all) ∙ above_none parts is
 
 -- ---- going down
 

@@ -12,7 +12,8 @@ use Rattle.sx_kinds.specs.declared.types.Parts.{Parts}
 use Rattle.sx_kinds.specs.declared.types.Ty.{Ty}
 use Rattle.sx_kinds.specs.declared.types.Typing.{Typing}
 use Rattle.sx_kinds.specs.declared.types.VarType.{VarType}
-use Rattle.sx_types.specs.Descent.{Standing, above_first, down, first_part, levels, one_down, standing}
+use Rattle.sx_kinds.specs.Spines.{above_first, levels}
+use Rattle.sx_types.specs.Descent.{Standing, down, first_part, one_down, standing}
 use Rattle.sx_types.specs.Settling.{IsBegun, IsSettledAt, inside, next_part, settled_at, together}
 use Rattle.sx_types.proofs.Firsts.{down_rest, levels_out, standing_is}
 use Rattle.sx_types.proofs.Rewriting.{known_more, parts_more}

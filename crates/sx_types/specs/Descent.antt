@@ -8,15 +8,6 @@ use Rattle.sx_kinds.specs.declared.expressions.Expr.TheFolds.{fold-Expr}
 use Rattle.sx_kinds.specs.declared.types.Ty.{Ty}
 use Rattle.sx_kinds.specs.declared.types.Typing.{Typing}
 
--- by how many lie below the first of these parts
-abbrev pub above_first : List ℕ → ℕ
-above_first [] = 0
-above_first (n ∷ ns) = suc n
-
--- how many first parts of an expression lie below one another
-unfoldable pub levels : Expr → ℕ
-levels = fold-Expr ℕ (λ e. above_first e.parts)
-
 -- an expression, and the context that it stands in
 pub record Standing : Type 0 where
   pub expr : Expr

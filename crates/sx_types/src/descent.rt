@@ -7,20 +7,6 @@ use crate::forms::focus;
 use crate::paths;
 use sx_kinds::{Expr, Ty};
 
-/// How many first parts of an expression lie below one another.
-#[inline(never)]
-pub fn levels(e: &Expr) -> usize
-    ensures { result ≡ min (spec.levels e.now) (2 ^ 64 - 1) }
-{
-    let mut count: usize = 0;
-    let mut at = e;
-    while let Some(first) = at.parts.as_slice().first() {
-        count = count.saturating_add(1);
-        at = first;
-    }
-    count
-}
-
 /// The expression that lies so many first parts below, or the last one, and the context that it stands in.
 #[inline(never)]
 pub fn fall<'a>(e: &'a Expr, outer: &Ty, n: usize) -> (&'a Expr, Ty)

@@ -6,11 +6,12 @@ ghost use Rattle.sx_kinds.specs.Types.{below, each, focus as focus_of, type_of, 
 ghost use Rattle.sx_kinds.specs.declared.expressions.Expr.TheViews.{out-Expr};
 ghost use Rattle.sx_kinds.specs.declared.types.Ty.{Ty as AnyTy};
 ghost use Rattle.sx_kinds.specs.declared.types.Typing.{Typing as AnyTyping};
-ghost use Rattle.sx_types.specs.Descent.{down, levels as levels_of, standing};
+ghost use Rattle.sx_kinds.specs.Spines.{levels};
+ghost use Rattle.sx_types.specs.Descent.{down, standing};
 ghost use Rattle.sx_types.specs.Places.{place_of};
 ghost use Rattle.sx_types.specs.Settling.{IsBegun, IsSettledAt, known_after, known_from, next_part, together};
 
-use crate::descent::{fall, levels};
+use crate::descent::fall;
 use crate::forms::{focus, known_by};
 use crate::parts::{and_one, none};
 use crate::paths;
@@ -221,7 +222,7 @@ fn settle_rise(
     done: &mut Exprs,
 ) -> Result<Result<Typing, Code>, AllocError>
     requires above { 0 < n }
-    requires within { n ≤ levels_of e.now }
+    requires within { n ≤ levels e.now }
     requires below { IsSettledAt (place_of place.now) (down n (standing e.now place.now.context)) parts known }
     ensures { IfOk result (λ answer. let made = spec.settled e.now (place_of place.now) in
         (done.new ≡ done.old ++ made ∷ []) × (answer ≡ typing made place.now.context)) }
@@ -254,7 +255,7 @@ fn settle_in(
     ensures { IfOk result (λ answer. let made = spec.settled e.now (place_of place.now) in
         (done.new ≡ done.old ++ made ∷ []) × (answer ≡ typing made place.now.context)) }
 {
-    let n = levels(e);
+    let n = e.levels();
     if n == 0 {
         return settle_level(alloc, e, place, Exprs::new(alloc), Ok(none()), done);
     }

@@ -3,7 +3,7 @@ ghost use Rattle.std.specs.Prelude.{◌≡◌, Ok, drop, length};
 ghost use Rattle.sx_kinds.specs.Types as spec;
 ghost use Rattle.sx_types.specs.Descent.{IsKnown, down, known_front, standing};
 
-use crate::descent::{fall, levels};
+use crate::descent::fall;
 use crate::forms::{focus, known_by};
 use crate::parts::{and_one, none};
 use crate::paths::below;
@@ -61,7 +61,7 @@ fn rise(e: &Expr, outer: &Ty, n: usize, answer: Typing) -> Result<Typing, Code>
 fn typing(e: &Expr, outer: &Ty) -> Result<Typing, Code>
     ensures { result ≡ spec.typing e.now outer.now }
 {
-    let n = levels(e);
+    let n = e.levels();
     let (bottom, context) = fall(e, outer, n);
     let answer = level(bottom, &context, None)?;
     rise(e, outer, n, answer)

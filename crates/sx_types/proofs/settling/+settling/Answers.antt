@@ -4,7 +4,8 @@ use Rattle.sx_kinds.specs.Types.{each, typing}
 use Rattle.sx_kinds.specs.declared.expressions.Expr.{Expr}
 use Rattle.sx_kinds.specs.declared.expressions.Expr.TheViews.{out-Expr}
 use Rattle.sx_kinds.specs.declared.types.Ty.{Ty}
-use Rattle.sx_types.specs.Descent.{down, levels, standing}
+use Rattle.sx_kinds.specs.Spines.{levels}
+use Rattle.sx_types.specs.Descent.{down, standing}
 use Rattle.sx_types.specs.Places.{bindings, place_of}
 use Rattle.sx_types.specs.Settling.{IsSettledAt, known_after, next_part}
 use Rattle.sx_types.proofs.Firsts.{below_no_larger, levels_below, part_smaller}
