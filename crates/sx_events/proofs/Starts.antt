@@ -11,7 +11,7 @@ use Rattle.sx_tree.specs.declared.events.Attr.{Attr}
 use Rattle.sx_tree.specs.declared.events.Label.{Label}
 use Rattle.sx_tree.specs.declared.events.Space.{Space}
 use Rattle.sx_events.specs.Course.{begun}
-use Rattle.sx_events.specs.Place.{Place, Written, spaces_of, ordinary, scope_with, declares_twice, has_bad, start_fault, is_bound_prefix, all_bound, element_name, attributes_in, has_name, has_double}
+use Rattle.sx_events.specs.Place.{Place, Written, spaces_of, ordinary, scope_with, declares_twice, has_bad, most_open, start_fault, is_bound_prefix, all_bound, element_name, attributes_in, has_name, has_double}
 use Rattle.sx_events.specs.Starting.{IsLabelOf, AreAttributesOf, spaces_fault, has_number, has_double_number}
 use Rattle.sx_events.specs.declared.faults.Which.TheVariants as which
 use Rattle.sx_events.specs.declared.limits.Limits.{Limits}
@@ -70,7 +70,7 @@ module _ (limits : Limits) (p : Place) (name : List ℕ) (lines : List Written) 
     (scope : List (List (List ℕ × List ℕ))) (in_force : scope ≡ scope_with p p.attributes)
     (named with_attributes : List (List ℕ × List ℕ)) (kept : KeepsPlaces named with_attributes)
     (label : Label) (attrs : List Attr) (it : IsLabelOf named (element_name scope name) label) (all : AreAttributesOf with_attributes (attributes_in scope lines) attrs)
-    (spaces : spaces_fault declared ≡ None) (room : not (nat_lt (length p.opened) limits.depth) ≡ false)
+    (spaces : spaces_fault declared ≡ None) (room : not (nat_lt (length p.opened) (most_open limits)) ≡ false)
     (bound : true ≡ is_bound_prefix scope name) (all_are : true ≡ all_bound scope lines)
     (distinct : IsDistinct with_attributes) where
   abbrev scope_here : List (List (List ℕ × List ℕ))
@@ -87,7 +87,7 @@ module _ (limits : Limits) (p : Place) (name : List ℕ) (lines : List Written) 
 
   pub start_fault_is : (v : Bool) → v ≡ has_double_number attrs → start_fault limits p name ≡ cond v (Some which.DoubleAttr) None
   start_fault_is v is =
-      after_all (declares_twice (spaces_of p.attributes)) (has_bad (spaces_of p.attributes)) (not (nat_lt (length p.opened) limits.depth))
+      after_all (declares_twice (spaces_of p.attributes)) (has_bad (spaces_of p.attributes)) (not (nat_lt (length p.opened) (most_open limits)))
       (not (is_bound_prefix scope_here name && all_bound scope_here (ordinary p.attributes))) (has_double (attributes_in scope_here (ordinary p.attributes)))
       (ap spaces_fault (sym declared_are) ∙ spaces) room bound_here
       ∙ ap (λ (d : Bool). cond d (Some which.DoubleAttr) None) (ap has_double (sym attributes_here) ∙ sym (same_doubles with_attributes distinct attrs all.known) ∙ sym is)

@@ -8,7 +8,7 @@ use Rattle.sx_tree.specs.declared.events.Event.{Event}
 use Rattle.sx_events.specs.Course.{Lined, run_in, run_of, then_here}
 use Rattle.sx_events.specs.Place.{Place, fault_of, is_root_closed, is_of_element, needs_root, may_follow_attributes}
 use Rattle.sx_events.specs.Pending.{held, held_in, IsKnownIn, AreKnown, one_of}
-use Rattle.sx_events.specs.Standing.{Holds, AreWaiting, IsSmall, Knows, Flushed, TakesHere, Takes, fault_here, place_fault, is_run, count}
+use Rattle.sx_events.specs.Standing.{Holds, AreWaiting, Knows, Flushed, TakesHere, Takes, fault_here, place_fault, is_run, count}
 use Rattle.sx_events.specs.declared.faults.Which.{Which}
 use Rattle.sx_events.specs.declared.faults.Which.TheVariants as which
 use Rattle.sx_events.specs.declared.limits.Limits.{Limits}
@@ -137,6 +137,6 @@ module _ (limits : Limits) (line : Line) (number : ℕ) (names : List (List ℕ 
   takes_it (Some w) takes = ((λ p knows. fault_behind limits p line (may p knows) ∙ takes.0 p knows), takes.1, takes.2)
 
   pub takes_if : {E : Type 0} (done : Result (Option Which) E) → IfOk done (λ fault. TakesHere limits line number names old new before after fault) →
-      IfOk done (λ fault. IsSmall limits → Takes limits line number names old new before after fault)
-  takes_if (Ok fault) takes = λ small. takes_it fault takes
+      IfOk done (λ fault. Takes limits line number names old new before after fault)
+  takes_if (Ok fault) takes = takes_it fault takes
   takes_if (Err e) takes = tt

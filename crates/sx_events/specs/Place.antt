@@ -1,5 +1,5 @@
 -- What is known of a document behind some of its lines, and what is at fault with the next one.
-use Rattle.std.specs.Prelude.{ℕ, Bool, true, false, not, ◌&&◌, ◌||◌, nat_lt, bytes_eq, codes, List, [], ◌∷◌, ◌++◌, length, Option, Some, None, is_none, if◌then◌else◌}
+use Rattle.std.specs.Prelude.{ℕ, Bool, true, false, not, ◌&&◌, ◌||◌, nat_lt, bytes_eq, codes, min, List, [], ◌∷◌, ◌++◌, length, Option, Some, None, is_none, if◌then◌else◌}
 use Rattle.std.specs.Option.{option_map_or}
 use Rattle.sx_chars.specs.Names.{prefix_of, local_of}
 use Rattle.sx_esis.specs.Lines.{Line, starts, ends, has, lacks, says, instructs, skips, conforms}
@@ -190,6 +190,10 @@ is_mismatch p (instructs s) = false
 is_mismatch p skips = false
 is_mismatch p conforms = not (is_empty p.opened)
 
+-- the most elements that may be open in one another: the limit, and never more than 200
+abbrev pub most_open : Limits → ℕ
+most_open limits = min limits.depth 200
+
 -- what is at fault with the start of an element of this name
 abbrev pub start_fault : Limits → Place → List ℕ → Option Which
 start_fault limits p name =
@@ -197,7 +201,7 @@ start_fault limits p name =
     let scope = scope_with p p.attributes in
     if declares_twice spaces then Some which.DoubleAttr
     else if has_bad spaces then Some which.BadAttr
-    else if not (nat_lt (length p.opened) limits.depth) then Some which.Depth
+    else if not (nat_lt (length p.opened) (most_open limits)) then Some which.Depth
     else if not (is_bound_prefix scope name && all_bound scope (ordinary p.attributes)) then Some which.UnboundPrefix
     else if has_double (attributes_in scope (ordinary p.attributes)) then Some which.DoubleAttr
     else None

@@ -33,9 +33,8 @@ pub record AreWaiting (a : Attributes) (attributes : List Written) : Type 0 wher
   pub ordinary : lines_of a ≡ ordinary attributes
   pub spaces : a.spaces ≡ spaces_of attributes
 
--- limits by which every number of a line is exact, and every open element has room
+-- limits by which every number of a line is exact
 pub record IsSmall (limits : Limits) : Type 0 where
-  pub depth : limits.depth ≤ 200
   pub bytes : limits.bytes ≤ 2 ^ 61
 
 -- The parts of a reader keep what is known at this place.

@@ -1,6 +1,6 @@
 // The open elements of a document.
 ghost use Rattle.sx_events.specs.Place.{declared_behind};
-ghost use Rattle.std.specs.Prelude.{◌≡◌, ◌<◌, ◌≤◌, [], ◌∷◌, ℕ, List, Bool, length, not, nat_lt, false, IsTrue, IsFalse, OnOk};
+ghost use Rattle.std.specs.Prelude.{◌≡◌, ◌<◌, ◌≤◌, [], ◌∷◌, ℕ, List, Bool, length, min, not, nat_lt, false, IsTrue, IsFalse, OnOk};
 
 use arrayvec::ArrayVec;
 use std::alloc::{AllocError, Global};
@@ -48,7 +48,7 @@ impl Elements {
 
     /// Whether so many elements are open, or as many as there is room for.
     pub fn is_full(&self, depth: u64) -> bool
-        ensures is { (names : List (List ℕ)) → Holds self.now names → depth ≤ 200 → result ≡ not (nat_lt (length names) depth) }
+        ensures is { (names : List (List ℕ)) → Holds self.now names → result ≡ not (nat_lt (length names) (min depth 200)) }
         ensures room { IsFalse result → length self.now.starts.items < 200 }
     {
         self.starts.len() as u64 >= depth.min(MOST_OPEN)

@@ -64,9 +64,8 @@ fn count_looked_at(limit: u64, total: u64, piece: &[u8]) -> usize
 }
 
 impl EventReader {
-    /// A reader that was fed nothing.
+    /// A reader that was fed nothing. It never has more than 200 elements open: a greater depth counts as 200.
     pub fn new(alloc: Global, limits: &Limits) -> EventReader
-        requires depth { limits.now.depth ≤ 200 }
         requires bytes { limits.now.bytes ≤ 2 ^ 61 }
         ensures stands { (names : List (List ℕ × List ℕ)) → Stands result limits.now names [] false 0 }
         ensures unspent { is_spent result ≡ false }

@@ -11,7 +11,7 @@ pub struct Limits {
     pub text_run: u64,
     /// attribute lines of one element that are not IMPLIED
     pub attrs: u64,
-    /// elements that are open at once
+    /// elements that are open at once; it counts up to 200 and no more
     pub depth: u64,
     /// bytes of a document
     pub bytes: u64,

@@ -8,7 +8,7 @@ ghost use Rattle.sx_events.specs.declared.pending.Pending.{Pending};
 ghost use Rattle.sx_events.specs.declared.limits.Limits.{Limits};
 ghost use Rattle.sx_events.specs.Place.{Place, beginning, end_fault};
 ghost use Rattle.sx_events.specs.Place as place;
-ghost use Rattle.sx_events.specs.Standing.{IsSmall, Knows, Takes, TakesHere, Flushed, place_fault, count};
+ghost use Rattle.sx_events.specs.Standing.{Knows, Takes, TakesHere, Flushed, place_fault, count};
 
 use crate::attributes::Attributes;
 use crate::elements::Elements;
@@ -101,7 +101,7 @@ impl Standing {
         number: u64,
         pending: &mut Pending,
     ) -> Result<Option<Which>, AllocError>
-        ensures takes { IfOk result (λ fault. IsSmall limits.now → Takes limits.now (view_line line.entry) number names.new self.old self.new pending.old pending.new fault) }
+        ensures takes { IfOk result (λ fault. Takes limits.now (view_line line.entry) number names.new self.old self.new pending.old pending.new fault) }
         ensures one { count self.new.run pending.new ≤ count self.old.run pending.old + 1 }
         ensures kept { KeepsPlaces names.old names.new }
         ensures distinct { IsDistinct names.old → IsDistinct names.new }
@@ -147,7 +147,7 @@ impl Standing {
         number: u64,
         pending: &mut Pending,
     ) -> Result<Option<Which>, AllocError>
-        ensures takes { IfOk result (λ fault. IsSmall limits.now → TakesHere limits.now (starts name.now) number names.new self.old self.new pending.old pending.new fault) }
+        ensures takes { IfOk result (λ fault. TakesHere limits.now (starts name.now) number names.new self.old self.new pending.old pending.new fault) }
         ensures one { count self.new.run pending.new ≤ count self.old.run pending.old + 1 }
         ensures kept { KeepsPlaces names.old names.new }
         ensures distinct { IsDistinct names.old → IsDistinct names.new }

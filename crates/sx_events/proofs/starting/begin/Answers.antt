@@ -9,7 +9,7 @@ use Rattle.sx_events.proofs.Starts.{start_fault_is, event_is, label_known}
 use Rattle.sx_events.proofs.starting.begin.Goals as goal
 
 pub returns-then-has_double-clause-begins : goal.returns-then-has_double-clause-begins
-returns-then-has_double-clause-begins c = λ p small holds around wait.
+returns-then-has_double-clause-begins c = λ p holds around wait.
     let lines = take c.take-count.result.0 c.take-count.new.self.lines.items in
     let lines_are = ap₂ (λ (n : ℕ) (ls : Vec Written). take n ls.items) c.take-count.ensures.count c.take-count.ensures.lines ∙ wait.ordinary in
     let declared = c.take-count.result.1 in
@@ -19,7 +19,7 @@ returns-then-has_double-clause-begins c = λ p small holds around wait.
     c.in-Some-2.label c.in-Some-3.attrs
     (rw c.scope.ensures at (rw c.in-Some-2.is at c.in_ok-label.ensures.name)) (rw c.scope-2.ensures at (rw c.in-Some-3.is at c.in_ok-attrs.ensures.names))
     (ap spaces_fault (sym c.as_slice.ensures) ∙ sym c.spaces_fault.ensures ∙ c.in_default.is)
-    (sym (c.is_full.ensures.is p.opened holds small.depth) ∙ c.if-is_full.false)
+    (sym (c.is_full.ensures.is p.opened holds) ∙ c.if-is_full.false)
     (rw c.scope.ensures at (rw c.in-Some-2.is at c.in_ok-label.ensures.bound)) (rw c.scope-2.ensures at (rw c.in-Some-3.is at c.in_ok-attrs.ensures.bound))
     (c.attributes.ensures.distinct (rw c.in-Some-2.is at c.in_ok-label.ensures.unique))
     true (sym c.if-has_double.true ∙ c.has_double.ensures ∙ ap has_double_number c.as_slice-3.ensures)
@@ -31,7 +31,7 @@ pub returns-in_err-push-clause-kept : goal.returns-in_err-push-clause-kept
 returns-in_err-push-clause-kept c = KeepsPlaces-trans _ _ _ c.element_label.ensures.kept c.attributes.ensures.kept
 
 pub returns-clause-begins : goal.returns-clause-begins
-returns-clause-begins c = λ p small holds around wait.
+returns-clause-begins c = λ p holds around wait.
     let lines = take c.take-count.result.0 c.take-count.new.self.lines.items in
     let lines_are = ap₂ (λ (n : ℕ) (ls : Vec Written). take n ls.items) c.take-count.ensures.count c.take-count.ensures.lines ∙ wait.ordinary in
     let declared = c.take-count.result.1 in
@@ -40,7 +40,7 @@ returns-clause-begins c = λ p small holds around wait.
     let it = rw c.scope.ensures at (rw c.in-Some-2.is at c.in_ok-label.ensures.name) in
     let all = rw c.scope-2.ensures at (rw c.in-Some-3.is at c.in_ok-attrs.ensures.names) in
     let spaces = ap spaces_fault (sym c.as_slice.ensures) ∙ sym c.spaces_fault.ensures ∙ c.in_default.is in
-    let room = sym (c.is_full.ensures.is p.opened holds small.depth) ∙ c.if-is_full.false in
+    let room = sym (c.is_full.ensures.is p.opened holds) ∙ c.if-is_full.false in
     let bound = rw c.scope.ensures at (rw c.in-Some-2.is at c.in_ok-label.ensures.bound) in
     let all_are = rw c.scope-2.ensures at (rw c.in-Some-3.is at c.in_ok-attrs.ensures.bound) in
     let distinct = c.attributes.ensures.distinct (rw c.in-Some-2.is at c.in_ok-label.ensures.unique) in

@@ -19,7 +19,7 @@ returns-in-None-2-clause-after c = λ b ended given line idle along.
     let gives = (rw (c.in-Some-Ok.is, c.in-Some-Ok.field-0-is) at c.next.follows.holds-at-none).gives c.args.limits.now.line _ _ _ along.reads in
     let number = next_number c.args.lines.now c.args.standing.now c.args.pending.now c.args.limits.now c.args.names.now b ended given line along c.line.result c.saturating_add-number.result
     (c.line.ensures c.args.limits.now.line _ _ _ along.reads (few_bytes c.args.lines.now c.args.standing.now c.args.pending.now c.args.limits.now c.args.names.now b ended given line along)) c.saturating_add-number.ensures in
-    let took = (rw c.in-None-2.is at c.in_ok-take-in-Some-Ok.ensures.takes) along.small (course c.args.limits.now beginning along.front).place along.knows number idle in
+    let took = (rw c.in-None-2.is at c.in_ok-take-in-Some-Ok.ensures.takes) (course c.args.limits.now beginning along.front).place along.knows number idle in
     took_line c.args.lines.now c.args.standing.now c.args.pending.now c.args.limits.now c.args.names.now b ended given line along (view_line c.in-Some-Ok.line) gives.0
     _ c.take.new.self c.take.new.pending c.take.new.names idle gives.1 took.0 took.1
 
@@ -28,7 +28,7 @@ returns-in-Some-clause-after c = λ b ended given line idle along.
     let gives = (rw (c.in-Some-Ok.is, c.in-Some-Ok.field-0-is) at c.next.follows.holds-at-none).gives c.args.limits.now.line _ _ _ along.reads in
     let number = next_number c.args.lines.now c.args.standing.now c.args.pending.now c.args.limits.now c.args.names.now b ended given line along c.line.result c.saturating_add-number.result
     (c.line.ensures c.args.limits.now.line _ _ _ along.reads (few_bytes c.args.lines.now c.args.standing.now c.args.pending.now c.args.limits.now c.args.names.now b ended given line along)) c.saturating_add-number.ensures in
-    let took = (rw c.in-Some.is at c.in_ok-take-in-Some-Ok.ensures.takes) along.small in
+    let took = (rw c.in-Some.is at c.in_ok-take-in-Some-Ok.ensures.takes) in
     took_fault c.args.lines.now c.args.standing.now c.args.pending.now c.args.limits.now c.args.names.now b ended given line along (view_line c.in-Some-Ok.line) gives.0
     c.take.new.self c.take.new.pending c.take.new.names c.in-Some.which c.saturating_add-number.result idle number (took.0 (course c.args.limits.now beginning along.front).place along.knows) took.1 took.2
     c.in_ok-take-in-Some-Ok.ensures.kept

@@ -6,9 +6,9 @@ use Rattle.sx_events.proofs.Takings.{knows_flushed, put_waits, put_count}
 use Rattle.sx_events.proofs.standing.Standing.start.Goals as goal
 
 pub returns-in-Ok-clause-takes : goal.returns-in-Ok-clause-takes
-returns-in-Ok-clause-takes c = λ small p knows may line idle.
+returns-in-Ok-clause-takes c = λ p knows may line idle.
     let name = c.args.name.now in
-    let begins = (rw c.in-Ok.is at c.in_ok-which.ensures.begins) p small knows.opened knows.scope knows.wait in
+    let begins = (rw c.in-Ok.is at c.in_ok-which.ensures.begins) p knows.opened knows.scope knows.wait in
     let flushed = c.put.ensures.flushed in
     let waits = put_waits c.begin.new.names c.args.self.now _ c.put.new.self c.put.new.pending p knows refl flushed c.in-Ok.event c.args.number (tree.starts (begun p name)) c.put.ensures.event line begins.1 begins.2 in (
       begins.0,
