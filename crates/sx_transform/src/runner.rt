@@ -81,7 +81,6 @@ impl Runner {
 
     /// A runner that was fed nothing.
     pub fn new(alloc: Global, session: Session, names: Names, limits: &Limits) -> Runner
-        requires depth { limits.now.depth ≤ 200 }
         requires bytes { limits.now.bytes ≤ 2 ^ 40 }
         ensures stands { (sheet : Stylesheet) → IsReady sheet names → IsDistinct names → machine.Stands sheet names limits.now.invocations session [] 0
             → Stands sheet names limits.now result [] false [] }
