@@ -4,7 +4,6 @@ use Rattle.sx_kinds.specs.Types.{below, focus, typing}
 use Rattle.sx_kinds.specs.declared.expressions.Expr.{Expr}
 use Rattle.sx_kinds.specs.declared.expressions.Expr.TheOpen.{Expr-F}
 use Rattle.sx_kinds.specs.declared.expressions.Expr.TheViews.{out-Expr}
-use Rattle.sx_kinds.specs.declared.expressions.Expr.TheFolds.{fold-Expr}
 use Rattle.sx_kinds.specs.declared.types.Ty.{Ty}
 use Rattle.sx_kinds.specs.declared.types.Typing.{Typing}
 
