@@ -1,3 +1,4 @@
+mod ArgumentReadings
 mod Characters
 mod Cuts
 mod Digits
@@ -6,4 +7,5 @@ mod Pairs
 mod Places
 mod Printings
 mod Readings
+mod Spans
 mod Sums

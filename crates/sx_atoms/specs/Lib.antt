@@ -1,3 +1,4 @@
+pub mod Arguments
 pub mod Arithmetic
 pub mod Casting
 pub mod Codes
@@ -5,4 +6,7 @@ pub mod Comparison
 pub mod Laws
 pub mod Lexical
 pub mod Numbers
+pub mod Positions
 pub mod Printing
+pub mod Ranges
+pub mod Signature

@@ -1,5 +1,5 @@
 // What a caller relies on, said of the definitions.
-ghost use Rattle.std.specs.Prelude.{◌≡◌, true, Bool, Ok, ℕ, List, ℤ, ◌*ℤ◌};
+ghost use Rattle.std.specs.Prelude.{◌≡◌, true, Bool, Ok, ℕ, List, ℤ, pos, neg_ℤ, ◌+ℤ◌, ◌-ℤ◌, ◌*ℤ◌, ◌<ℤ◌, ◌≤ℤ◌};
 ghost use Rattle.std.specs.Cmp.{IsTotalOrder};
 ghost use Rattle.std.specs.Cmp.Lexicographic.{slice_cmp};
 ghost use Rattle.std.specs.Ordering.{nat_cmp};
@@ -9,6 +9,7 @@ ghost use Rattle.sx_atoms.specs.Casting.{cast_of};
 ghost use Rattle.sx_atoms.specs.Comparison.{comparison_of, holds};
 ghost use Rattle.sx_atoms.specs.Laws.{atom_of, type_of, content, order_of_numbers, IsCut};
 ghost use Rattle.sx_atoms.specs.Numbers.{fits, units, one};
+ghost use Rattle.sx_atoms.specs.Positions.{floor_of, ceiling_of, rounded};
 ghost use Rattle.sx_atoms.specs.Printing.{text_of};
 ghost use Rattle.sx_atoms.specs.declared.atoms.Atom.{Atom as AnyAtom};
 ghost use Rattle.sx_atoms.specs.declared.comparison.CmpOp.{CmpOp as Operator};
@@ -52,4 +53,14 @@ pub fn division()
         → (r : ℤ) × IsCut (units x *ℤ one) (units y) d r }
     ensures product { (d e p : ℤ) → with_operands product_of (Atom.Dec (dec d)) (Atom.Dec (dec e)) ≡ Ok (Atom.Dec (dec p))
         → (r : ℤ) × IsCut (d *ℤ e) one p r }
+{}
+
+/// The nearest integer is no more than half of one away, and half of one only upward; the integer below a number is less than
+/// one away; and the one above is minus that below minus the number.
+pub fn rounding()
+    ensures nearest_above { (x : AnyNumber) → ((pos 2 *ℤ units x) -ℤ one) <ℤ ((pos 2 *ℤ rounded x) *ℤ one) }
+    ensures nearest_below { (x : AnyNumber) → ((pos 2 *ℤ rounded x) *ℤ one) ≤ℤ ((pos 2 *ℤ units x) +ℤ one) }
+    ensures floor_below { (x : AnyNumber) → (floor_of x *ℤ one) ≤ℤ units x }
+    ensures floor_above { (x : AnyNumber) → units x <ℤ ((floor_of x +ℤ pos 1) *ℤ one) }
+    ensures ceiling { (x y : AnyNumber) → units y ≡ neg_ℤ (units x) → ceiling_of x ≡ neg_ℤ (floor_of y) }
 {}

@@ -1,6 +1,9 @@
-//! Atoms: exact numbers, texts and truth values; the codes of errors; the functions of expressions.
+//! Atoms: exact numbers, texts and truth values; the codes of errors; the functions of expressions, and what they read of
+//! their arguments.
 #![tactic(auto)]
 
+/// The text, the number and the positions that an argument of a function is.
+pub mod arguments;
 mod arithmetic;
 mod atoms;
 mod casting;
@@ -11,8 +14,9 @@ pub mod laws;
 mod lexical;
 mod numbers;
 mod printing;
-#[cfg(test)]
-mod tests;
+mod rounding;
+mod signature;
+mod span;
 
 pub use arithmetic::{add, div, idiv, mul, rem, sub};
 pub use atoms::{Args, Atom, AtomType, Atoms, Dec, Text};
@@ -21,3 +25,6 @@ pub use comparison::{CmpOp, compare};
 pub use error_codes::Code;
 pub use functions::{SeqFn, TextFn, Usage};
 pub use printing::print;
+pub use rounding::{ceiling, floor, round};
+pub use signature::Signature;
+pub use span::Positions;

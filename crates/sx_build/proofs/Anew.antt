@@ -4,7 +4,7 @@ use Rattle.std.specs.Prelude.{slice_get, bytes_eq, ◌||◌}
 use Rattle.std.proofs.Math.Bool.{or-false}
 use Rattle.std.proofs.lemmas.List.{take_all}
 use Rattle.sx_lines.specs.declared.events.Pair.{Pair}
-use Rattle.sx_tree.specs.Named.{Name, Attribute}
+use Rattle.sx_named.specs.Named.{Name, Attribute}
 use Rattle.sx_build.specs.FixUp.{Binding, Fixed, is_one_of, attribute_prefixes}
 use Rattle.sx_build.specs.Build.{printed_name, declaration_pairs, attribute_pairs}
 use Rattle.sx_build.specs.Kept.{attributes_with, name_prefixes, fixed_at, fixed_anew, fixed_pairs}

@@ -4,7 +4,7 @@ use Rattle.std.proofs.lemmas.List.{length-map, map-append}
 use Rattle.std.specs.Prelude.{bytes_eq, ◌||◌}
 use Rattle.std.proofs.lemmas.Bool.{or_right, or_parts}
 use Rattle.sx_lines.specs.declared.events.Pair.{Pair}
-use Rattle.sx_tree.specs.Named.{Attribute}
+use Rattle.sx_named.specs.Named.{Attribute}
 use Rattle.sx_build.specs.FixUp.{Binding, Fixed, bind, with_prefix, put_attribute, prefixes, is_empty, is_bound, is_in_use, is_one_of, free_prefix, fix_attributes}
 use Rattle.sx_build.specs.Build.{attribute_pairs}
 use Rattle.sx_build.specs.Kept.{ArePlain}

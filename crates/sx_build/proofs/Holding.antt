@@ -6,7 +6,7 @@ use Rattle.sx_build.specs.InForce.{in_force}
 use Rattle.std.proofs.lemmas.List.{length-reverse, length-map, map-append, take_at, take-append-le, take-set-le, drop_at, drop-set-add, map-set}
 use Rattle.std.proofs.lemmas.Option.{slice_get-get_or}
 use Rattle.sx_lines.specs.declared.events.Pair.{Pair}
-use Rattle.sx_tree.specs.Named.{Name, Attribute}
+use Rattle.sx_named.specs.Named.{Name, Attribute}
 use Rattle.sx_build.specs.Content.{Held, with_attribute}
 use Rattle.sx_build.specs.FixUp.{Binding, Fixed, first_bound, is_one_of, prefixes, attribute_prefixes, declared_for, fix_attributes, fix_up}
 use Rattle.sx_build.specs.Build.{declaration_pairs, attribute_pairs}

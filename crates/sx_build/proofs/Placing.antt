@@ -2,7 +2,7 @@
 use Rattle.std.proofs.Common.{◌≡◌, ℕ, true, false, cond, List, [], ◌∷◌, ◌++◌, take, ap, ap₂, sym, ◌∙◌, append_assoc}
 use Rattle.sx_chars.specs.Names.{prefixed}
 use Rattle.sx_lines.specs.declared.events.Pair.{Pair}
-use Rattle.sx_tree.specs.Named.{Name, Attribute}
+use Rattle.sx_named.specs.Named.{Name, Attribute}
 use Rattle.sx_build.specs.FixUp.{Binding, Fixed, bind, with_prefix, is_bound, is_in_use, prefixes, free_prefix}
 use Rattle.sx_build.specs.Build.{printed_name, declaration_pairs, attribute_pairs}
 use Rattle.sx_build.specs.Kept.{name_prefixes, fixed_at}

@@ -5,7 +5,7 @@ use Rattle.std.specs.List.{position_from}
 use Rattle.std.proofs.lemmas.Bool.{eqb-true}
 use Rattle.std.proofs.lemmas.List.{nil_from_length, set-append_right}
 use Rattle.sx_lines.specs.declared.events.Pair.{Pair}
-use Rattle.sx_tree.specs.Named.{Name, Attribute}
+use Rattle.sx_named.specs.Named.{Name, Attribute}
 use Rattle.sx_build.specs.Content.{Held, with_attribute}
 use Rattle.sx_build.specs.FixUp.{Binding, Fixed, attribute_prefixes, declared_for, fix_up}
 use Rattle.sx_build.specs.Build.{printed_name, declaration_pairs, attribute_pairs}

@@ -6,7 +6,7 @@ use Rattle.std.proofs.lemmas.Iterator.Adapters.{position_from-zero}
 use Rattle.std.proofs.lemmas.Option.{same_Some}
 use Rattle.std.proofs.lemmas.Slice.Eq.{bytes_eq-Decides}
 use Rattle.sx_lines.specs.declared.events.Pair.{Pair}
-use Rattle.sx_tree.specs.Named.{Name, is_same_name, Attribute}
+use Rattle.sx_named.specs.Named.{Name, is_same_name, Attribute}
 use Rattle.sx_build.specs.Content.{with_attribute}
 use Rattle.sx_build.specs.Build.{printed_name, attribute_pairs}
 use Rattle.sx_build.specs.Kept.{names_of, plain_name, ArePlain}

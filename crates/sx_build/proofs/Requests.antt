@@ -10,7 +10,7 @@ use Rattle.sx_lines.specs.declared.events.Built.TheVariants as event
 use Rattle.sx_build.specs.declared.builder.Builder.{Builder}
 use Rattle.sx_build.specs.declared.builder.Element.{Element}
 use Rattle.sx_build.specs.declared.withheld.Withheld.{Withheld}
-use Rattle.sx_tree.specs.Named.{Attribute}
+use Rattle.sx_named.specs.Named.{Attribute}
 use Rattle.sx_build.specs.Asked.{Asked, prints}
 use Rattle.sx_build.specs.Content.{Held, spaced, misplaced}
 use Rattle.sx_build.specs.FixUp.{Binding}

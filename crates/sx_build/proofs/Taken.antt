@@ -4,7 +4,7 @@ use Rattle.std.specs.Prelude.{◌||◌}
 use Rattle.std.specs.Prelude.{slice_get}
 use Rattle.std.proofs.Common.{get_or, Some}
 use Rattle.std.proofs.lemmas.Option.{get_or_from_slice_get}
-use Rattle.sx_tree.specs.Named.{Name}
+use Rattle.sx_named.specs.Named.{Name}
 use Rattle.sx_build.specs.FixUp.{Binding, bind, is_in_use, prefixes, is_one_of, numbered_prefix, first_free}
 use Rattle.sx_build.specs.InForce.{in_force}
 use Rattle.sx_build.proofs.Prefixes.{one_of-append}

@@ -1,8 +1,9 @@
 -- What is asked for in turn, with names written out.
 use Rattle.std.specs.Prelude.{ℕ, List, [], ◌∷◌}
-use Rattle.sx_tree.specs.Named.{Name, Attribute, name_at, attribute_at}
+use Rattle.sx_named.specs.Named.{Name, Attribute, name_at, attribute_at}
 use Rattle.sx_build.specs.declared.raw.Raw.{Raw}
 use Rattle.sx_build.specs.declared.raw.Raw.TheVariants as raw
+use Rattle.sx_names.specs.Numbering.{NameTable}
 
 -- what comes next in a result: an element starts; the innermost open one ends; an attribute of the element that has just
 -- started; a text, which may be empty; an atom, by its print; a processing instruction
@@ -14,7 +15,7 @@ pub data Asked : Type 0 where
   prints : List ℕ → Asked
   instructs : List ℕ → List ℕ → Asked
 
-module _ (names : List (List ℕ × List ℕ)) where
+module _ (names : NameTable) where
   -- what a raw event asks for, by this table of names
   abbrev pub asked_at : Raw → Asked
   asked_at (raw.Start label) = starts (name_at names label)

@@ -5,7 +5,7 @@ use Rattle.sx_chars.specs.Names.{prefixed}
 use Rattle.sx_lines.specs.declared.events.Pair.{Pair}
 use Rattle.sx_lines.specs.declared.events.Built.{Built}
 use Rattle.sx_lines.specs.declared.events.Built.TheVariants as event
-use Rattle.sx_tree.specs.Named.{Name, Attribute}
+use Rattle.sx_named.specs.Named.{Name, Attribute}
 use Rattle.sx_build.specs.Asked.{Asked}
 use Rattle.sx_build.specs.Content.{Part, start, end, text, instruction, parts_of}
 use Rattle.sx_build.specs.FixUp.{Binding, Fixed, fix_up, first_bound}

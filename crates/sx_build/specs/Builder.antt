@@ -82,5 +82,5 @@ pub record StandsFor (b : Builder) (asked : List Asked) (at_end : Bool) (given :
   pub keeps : KeepsAt at_end asked b fixed
 
 -- After this was asked for, and after it was or was not told that the content is at its end, the builder has given so many.
-abbrev pub Stands : Builder → List Asked → Bool → ℕ → Type 0
-Stands b asked at_end given = StandsFor b asked at_end given
+abbrev pub BuilderStands : Builder → List Asked → Bool → ℕ → Type 0
+BuilderStands b asked at_end given = StandsFor b asked at_end given

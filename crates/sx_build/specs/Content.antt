@@ -2,7 +2,7 @@
 use Rattle.std.specs.Prelude.{ℕ, zero, suc, Bool, true, false, List, [], ◌∷◌, ◌++◌, Option, Some, None, if◌then◌else◌}
 use Rattle.sx_atoms.specs.declared.error_codes.Code.{Code}
 use Rattle.sx_atoms.specs.declared.error_codes.Code.TheVariants as error
-use Rattle.sx_tree.specs.Named.{Name, is_same_name, Attribute}
+use Rattle.sx_named.specs.Named.{Name, is_same_name, Attribute}
 use Rattle.sx_build.specs.Asked.{Asked, starts, ends, has, says, prints, instructs}
 
 -- ---- texts

@@ -3,7 +3,7 @@ use Rattle.std.specs.Prelude.{ℕ, Bool, true, false, List, [], ◌∷◌, ◌++
 use Rattle.sx_atoms.specs.declared.error_codes.Code.{Code}
 use Rattle.sx_lines.specs.declared.events.Built.{Built}
 use Rattle.sx_lines.specs.declared.events.Built.TheVariants as event
-use Rattle.sx_tree.specs.Named.{Attribute}
+use Rattle.sx_named.specs.Named.{Attribute}
 use Rattle.sx_build.specs.Asked.{Asked, starts, ends, has, says, prints, instructs}
 use Rattle.sx_build.specs.Content.{Held, spaced, with_attribute, misplaced}
 use Rattle.sx_build.specs.FixUp.{fix_up}

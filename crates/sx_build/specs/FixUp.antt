@@ -1,7 +1,7 @@
 -- Namespace fix-up: which namespaces an element of a result declares, and with which prefixes its attributes are printed
 -- (XSLT 3.0, 5.7.3).
 use Rattle.std.specs.Prelude.{ℕ, zero, suc, Bool, true, false, not, ◌&&◌, ◌||◌, bytes_eq, codes, decimal, List, [], ◌∷◌, ◌++◌, length, map, if◌then◌else◌}
-use Rattle.sx_tree.specs.Named.{Name, Attribute}
+use Rattle.sx_named.specs.Named.{Name, Attribute}
 
 -- A binding of a prefix to a namespace. The empty prefix is the default one; the empty namespace is none.
 pub record Binding : Type 0 where

@@ -1,7 +1,7 @@
 -- What is kept of a withheld start.
 use Rattle.std.specs.Prelude.{◌≡◌, ℕ, List, [], ◌∷◌, ◌++◌, length, map, take}
 use Rattle.sx_lines.specs.declared.events.Pair.{Pair}
-use Rattle.sx_tree.specs.Named.{Name, Attribute}
+use Rattle.sx_named.specs.Named.{Name, Attribute}
 use Rattle.sx_build.specs.Content.{Held, with_attribute}
 use Rattle.sx_build.specs.FixUp.{Binding, Fixed, declared_for, fix_attributes, fix_up}
 use Rattle.sx_build.specs.Build.{printed_name, declaration_pairs, attribute_pairs}

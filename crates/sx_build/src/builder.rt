@@ -2,7 +2,7 @@
 ghost use Rattle.std.specs.Prelude.{◌≡◌, [], ◌∷◌, ◌++◌, ℕ, List, Bool, true, false, length, drop, reverse, Option, None, IsErr, OnOk, OnErr, IfOk};
 ghost use Rattle.sx_lines.specs.declared.events.Built.{Built as Event};
 ghost use Rattle.sx_lines.specs.declared.events.Built.TheVariants as event;
-ghost use Rattle.sx_tree.specs.Named.{name_at, attribute_at};
+ghost use Rattle.sx_named.specs.Named.{name_at, attribute_at};
 ghost use Rattle.sx_build.specs.Asked.{Asked, starts, ends, has, says, prints, instructs, asked_at};
 ghost use Rattle.sx_build.specs.Content.{spaced};
 
@@ -29,7 +29,7 @@ pub struct Element {
 /// Builds a result as it is asked for. What is fixed can be given; a start at the end is withheld, since attributes may
 /// follow it.
 ///
-/// Contracts say by `Stands` after which requests it stands, and how many built events it has given.
+/// Contracts say by `BuilderStands` after which requests it stands, and how many built events it has given.
 #[derive(Drop)]
 pub struct Builder {
     alloc: Global,
@@ -73,11 +73,11 @@ impl Builder {
     ghost use Rattle.sx_build.specs.Build.{Build, Open, error_of};
     ghost use Rattle.sx_build.specs.Content.{Held as HeldStart};
     ghost use Rattle.sx_build.specs.Course.{Course, at_work, gives, gives_in, after, after_in, held_start, with_held, text_gives, after_text};
-    ghost use Rattle.sx_build.specs.Builder.{Stands, Withholds, KeepsTo, answer_of, is_spent};
+    ghost use Rattle.sx_build.specs.Builder.{BuilderStands, Withholds, KeepsTo, answer_of, is_spent};
 
     /// A builder that nothing was asked of. It takes no memory.
     pub fn new(alloc: Global) -> Builder
-        ensures stands { Stands result [] false 0 }
+        ensures stands { BuilderStands result [] false 0 }
         ensures spent { is_spent result ≡ false }
     {
         Builder {
@@ -100,9 +100,9 @@ impl Builder {
     ///
     /// After an `AllocError` the builder is spent: each later push answers one, and what it gives is not said.
     pub fn push(&mut self, raw: Raw, names: &Names) -> Result<Result<(), Code>, AllocError>
-        ensures stands { OnOk result ((asked : List Asked) (given : ℕ) → Stands self.old asked false given
-            → Stands self.new (asked ++ asked_at names.now raw ∷ []) false given) }
-        ensures answer { IfOk result (λ answer. (asked : List Asked) (given : ℕ) → Stands self.old asked false given
+        ensures stands { OnOk result ((asked : List Asked) (given : ℕ) → BuilderStands self.old asked false given
+            → BuilderStands self.new (asked ++ asked_at names.now raw ∷ []) false given) }
+        ensures answer { IfOk result (λ answer. (asked : List Asked) (given : ℕ) → BuilderStands self.old asked false given
             → answer ≡ answer_of (error_of (asked ++ asked_at names.now raw ∷ []))) }
         ensures err { OnErr result (is_spent self.new ≡ true) }
         ensures spent { is_spent self.old ≡ true → IsErr result }
@@ -268,7 +268,7 @@ impl Builder {
 
     /// Is told that the content is at its end: a withheld start is fixed. It takes no memory.
     pub fn finish(&mut self)
-        ensures stands { (asked : List Asked) (given : ℕ) → Stands self.old asked false given → Stands self.new asked true given }
+        ensures stands { (asked : List Asked) (given : ℕ) → BuilderStands self.old asked false given → BuilderStands self.new asked true given }
         ensures spent { is_spent self.new ≡ is_spent self.old }
     {
         match self.withheld.take() {
@@ -283,15 +283,15 @@ impl Builder {
 
     /// What is fixed and was not cleared yet, in order.
     pub fn output(&self) -> &[Built]
-        ensures { (asked : List Asked) (at_end : Bool) (given : ℕ) → Stands self.now asked at_end given → result.now ≡ drop given (Build asked at_end) }
+        ensures { (asked : List Asked) (at_end : Bool) (given : ℕ) → BuilderStands self.now asked at_end given → result.now ≡ drop given (Build asked at_end) }
     {
         self.pending.as_slice()
     }
 
     /// Drops what is fixed: it was given. It takes no memory, and keeps that of the list.
     pub fn clear_output(&mut self)
-        ensures stands { (asked : List Asked) (at_end : Bool) (given : ℕ) → Stands self.old asked at_end given
-            → Stands self.new asked at_end (length (Build asked at_end)) }
+        ensures stands { (asked : List Asked) (at_end : Bool) (given : ℕ) → BuilderStands self.old asked at_end given
+            → BuilderStands self.new asked at_end (length (Build asked at_end)) }
         ensures spent { is_spent self.new ≡ is_spent self.old }
     {
         self.pending.clear();

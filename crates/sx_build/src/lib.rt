@@ -6,8 +6,6 @@ mod builder;
 mod laws;
 mod names;
 mod raw;
-#[cfg(test)]
-mod tests;
 mod withheld;
 
 // A contract of another crate can speak of `Builder` only if the types of its fields are exported.

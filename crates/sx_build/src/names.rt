@@ -1,6 +1,6 @@
 // Names, written out and as they are printed.
 ghost use Rattle.std.specs.Prelude.{◌≡◌, ◌&&◌, IfOk};
-ghost use Rattle.sx_tree.specs.Named as named;
+ghost use Rattle.sx_named.specs.Named as named;
 ghost use Rattle.sx_names.specs.Numbering as table;
 ghost use Rattle.sx_chars.specs.Names as chars;
 ghost use Rattle.sx_build.specs.Build as spec;
@@ -22,7 +22,7 @@ pub struct Name {
 }
 
 impl Model for Name {
-    ghost use Rattle.sx_tree.specs.Named as named;
+    ghost use Rattle.sx_named.specs.Named as named;
     ghost use Rattle.sx_build.specs.Kept.{name_with};
 
     ghost Value = { named.Name };

@@ -3,7 +3,7 @@ ghost use Rattle.std.specs.Prelude.{◌≡◌, ◌≤◌, slice_set, ◌++◌, [
 ghost use Rattle.std.specs.List.{position, position_from};
 ghost use Rattle.sx_lines.specs.declared.events.Built.TheVariants as event;
 ghost use Rattle.sx_lines.specs.declared.events.Pair.{Pair as Printed};
-ghost use Rattle.sx_tree.specs.Named as named;
+ghost use Rattle.sx_named.specs.Named as named;
 ghost use Rattle.sx_build.specs.Content as content;
 ghost use Rattle.sx_build.specs.FixUp as fix;
 ghost use Rattle.sx_build.specs.Build as spec;

@@ -2,7 +2,5 @@
 #![tactic(auto)]
 
 mod names;
-#[cfg(test)]
-mod tests;
 
 pub use names::{is_ncname, is_qname, is_white_space, split_instruction, split_name};

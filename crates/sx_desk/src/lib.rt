@@ -9,8 +9,6 @@ mod opened;
 mod pieces;
 mod real;
 mod steady;
-#[cfg(test)]
-mod tests;
 
 pub use desk::{Desk, Failed, Out};
 pub use files::{MemFile, MemFiles};

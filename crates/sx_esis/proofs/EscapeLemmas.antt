@@ -9,7 +9,7 @@ use Rattle.std.specs.Char.{encode_utf8}
 use Rattle.std.specs.List.{list_all, position_or_len}
 use Rattle.sx_chars.proofs.Places.{take_one_more, drop_one_more}
 use Rattle.sx_esis.specs.Escapes.{Escape, stands_for, begins, is_fault, is_decimal, is_character, character, number, decimal, put_before, go_on, unescape, unescape_from}
-use Rattle.sx_esis.specs.Replacing.{Reads}
+use Rattle.sx_esis.specs.Replacing.{ReadsCharacter}
 use Rattle.sx_esis.specs.declared.faults.LineWhich.{LineWhich}
 use Rattle.sx_esis.specs.declared.faults.LineWhich.TheVariants as which
 
@@ -157,7 +157,7 @@ module _ (bytes : List ℕ) (n : ℕ) (is : n ≡ position_or_len is_no_digit by
       let h = numbered some within semicolon in
       h.1 ∙ ap (λ (v : Bool). go_on (cond v (stands_for (encode_utf8 (number 10 (take n bytes)))) (is_fault which.BadEscape)) (unescape (drop (n + 1) bytes)) h.0) none
 
-  pub decimal_reads : (c : ℕ) → 0 < n → n < length bytes → get_or bytes n 0 ≡ 59 → is_character (number 10 (take n bytes)) ≡ true → c ≡ number 10 (take n bytes) → Reads (35 ∷ bytes) c (n + 2)
+  pub decimal_reads : (c : ℕ) → 0 < n → n < length bytes → get_or bytes n 0 ≡ 59 → is_character (number 10 (take n bytes)) ≡ true → c ≡ number 10 (take n bytes) → ReadsCharacter (35 ∷ bytes) c (n + 2)
   decimal_reads c some within semicolon is_one same =
       let h = numbered some within semicolon in
       let bounds = len_utf8_bounds c in

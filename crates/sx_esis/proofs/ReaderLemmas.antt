@@ -12,7 +12,7 @@ use Rattle.sx_esis.specs.declared.line_buffer.LineBuffer.{LineBuffer}
 use Rattle.sx_esis.specs.Lines.{Cut, cut, Line, Fault, Reading, nothing_more, fault_here, one_later, in_front, line_within, reading_of, last_line, rest_reading, lines_of}
 use Rattle.sx_esis.specs.Inside.{IsFirstLine, is_inside}
 use Rattle.sx_esis.specs.Buffered.{taken_line, waiting}
-use Rattle.sx_esis.specs.Stands.{Stands, MayFollow, behind, fault_or, line_shown, to_come}
+use Rattle.sx_esis.specs.LineReader.{LinesStand, MayFollow, behind, fault_or, line_shown, to_come}
 use Rattle.sx_esis.specs.Gives.{Advances, Counts, Fails, Judges}
 use Rattle.sx_esis.proofs.Cuts.{cut-line, cut-begun, cut-inside}
 use Rattle.sx_esis.proofs.Grow.{long_behind}
@@ -78,7 +78,7 @@ nothing_read limit (x ∷ w) true (inl none) = absurd (omega arith)
 nothing_read limit (x ∷ w) true (inr going) = cc
 nothing_read limit w false why = refl
 
-module _ (limit : ℕ) (bytes : List ℕ) (ended : Bool) (given : ℕ) (old : LineReader) (s : Stands old limit bytes ended given) where
+module _ (limit : ℕ) (bytes : List ℕ) (ended : Bool) (given : ℕ) (old : LineReader) (s : LinesStand old limit bytes ended given) where
   -- what is read now
   now_read : lines_of limit bytes ended ≡ behind s.passed (to_come old [] ended)
   now_read = ap (λ (b : List ℕ). lines_of limit b ended) (sym (append-nil bytes)) ∙ s.reading [] ended (may_now ended)

@@ -7,7 +7,7 @@ use Rattle.std.specs.Char.{encode_utf8, len_utf8}
 use Rattle.std.specs.List.{copy_within, position_or_len}
 use Rattle.sx_chars.proofs.Places.{take_one_more, drop_one_more}
 use Rattle.sx_esis.specs.Escapes.{put_before, unescape, unescape_from}
-use Rattle.sx_esis.specs.Replacing.{IsCut, Reads, comes_to}
+use Rattle.sx_esis.specs.Replacing.{IsCut, ReadsCharacter, comes_to}
 use Rattle.sx_esis.specs.declared.faults.LineWhich.{LineWhich}
 
 abbrev Answer : Type 0
@@ -123,7 +123,7 @@ module _ (old : List ℕ) (written read count : ℕ) (order : written ≤ read) 
         ∙ ap (λ (s : List ℕ). put_before (take (written + count) new) (unescape s)) (drop-drop count read old ∙ sym rest_is)
 
 -- a character that is written in place of an escape
-module _ (old new : List ℕ) (written read c count : ℕ) (cut : IsCut old written read) (more : read < length old) (reads : Reads (drop (read + 1) old) c count)
+module _ (old new : List ℕ) (written read c count : ℕ) (cut : IsCut old written read) (more : read < length old) (reads : ReadsCharacter (drop (read + 1) old) c count)
     (front : take (written + len_utf8 c) new ≡ take written old ++ encode_utf8 c) (rest : drop (written + len_utf8 c) new ≡ drop (written + len_utf8 c) old) where
   at_mark : unescape (drop read old) ≡ unescape_from (Some []) (drop (read + 1) old)
   at_mark =

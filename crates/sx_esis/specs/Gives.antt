@@ -7,7 +7,7 @@ use Rattle.sx_esis.specs.declared.reader.LineView.{LineView}
 use Rattle.sx_esis.specs.declared.reader.LineView.TheVariants.{Start, End, Attr, Implied, Text, Pi, Skipped, Conforming}
 use Rattle.sx_esis.specs.Lines.{Line, starts, ends, has, lacks, says, instructs, skips, conforms, Fault, Reading, lines_of, line_within}
 use Rattle.sx_esis.specs.Buffered.{taken_line, waiting}
-use Rattle.sx_esis.specs.Stands.{IsShown, Stands, line_shown, unread}
+use Rattle.sx_esis.specs.LineReader.{IsShown, LinesStand, line_shown, unread}
 
 -- the line that a view shows
 abbrev pub view_line : LineView → Line
@@ -36,15 +36,15 @@ pub record GivesFault (reading : Reading) (bytes : List ℕ) (given : ℕ) (f : 
 
 -- The reader went on to the line behind those given and shows it, or it gave all, or it met the fault.
 abbrev pub Advances : ℕ → List ℕ → Bool → ℕ → LineReader → Option (Result Unit LineFault) → Type 0
-Advances limit bytes ended given new None = GaveAll (lines_of limit bytes ended) given × Stands new limit bytes ended given
-Advances limit bytes ended given new (Some (Ok done)) = (slice_get (lines_of limit bytes ended).lines given ≡ Some (line_shown new)) × Stands new limit bytes ended (given + 1)
-Advances limit bytes ended given new (Some (Err f)) = GivesFault (lines_of limit bytes ended) bytes given f × Stands new limit bytes ended given
+Advances limit bytes ended given new None = GaveAll (lines_of limit bytes ended) given × LinesStand new limit bytes ended given
+Advances limit bytes ended given new (Some (Ok done)) = (slice_get (lines_of limit bytes ended).lines given ≡ Some (line_shown new)) × LinesStand new limit bytes ended (given + 1)
+Advances limit bytes ended given new (Some (Err f)) = GivesFault (lines_of limit bytes ended) bytes given f × LinesStand new limit bytes ended given
 
 -- The reader gave the line behind those given before, or it gave all, or it met the fault.
 abbrev pub Gives : ℕ → List ℕ → Bool → ℕ → LineReader → Option (Result LineView LineFault) → Type 0
-Gives limit bytes ended given new None = GaveAll (lines_of limit bytes ended) given × Stands new limit bytes ended given
-Gives limit bytes ended given new (Some (Ok view)) = (slice_get (lines_of limit bytes ended).lines given ≡ Some (view_line view)) × Stands new limit bytes ended (given + 1)
-Gives limit bytes ended given new (Some (Err f)) = GivesFault (lines_of limit bytes ended) bytes given f × Stands new limit bytes ended given
+Gives limit bytes ended given new None = GaveAll (lines_of limit bytes ended) given × LinesStand new limit bytes ended given
+Gives limit bytes ended given new (Some (Ok view)) = (slice_get (lines_of limit bytes ended).lines given ≡ Some (view_line view)) × LinesStand new limit bytes ended (given + 1)
+Gives limit bytes ended given new (Some (Err f)) = GivesFault (lines_of limit bytes ended) bytes given f × LinesStand new limit bytes ended given
 
 -- An answer with a line.
 abbrev pub IsLineGiven : {T : Type 0} → Option (Result T LineFault) → Type 0
@@ -54,7 +54,7 @@ IsLineGiven (Some (Err f)) = ⊥
 
 -- What a reader becomes that gave this answer.
 pub record Follows (old : LineReader) (result : Option (Result LineView LineFault)) (new : LineReader) : Type 0 where
-  pub gives : (limit : ℕ) (bytes : List ℕ) (ended : Bool) (given : ℕ) → Stands old limit bytes ended given → Gives limit bytes ended given new result
+  pub gives : (limit : ℕ) (bytes : List ℕ) (ended : Bool) (given : ℕ) → LinesStand old limit bytes ended given → Gives limit bytes ended given new result
   pub progress : IsLineGiven result → unread new < unread old
 
 -- What was fed, and how it is to be read, stays.

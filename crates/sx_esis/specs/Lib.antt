@@ -4,5 +4,5 @@ pub mod Lines
 pub mod Forms
 pub mod Inside
 pub mod Buffered
-pub mod Stands
+pub mod LineReader
 pub mod Gives

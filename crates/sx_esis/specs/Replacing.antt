@@ -15,7 +15,7 @@ pub record IsCut (bytes : List ℕ) (written read : ℕ) : Type 0 where
   pub mark : read < length bytes → slice_index bytes read ≡ 92
 
 -- Behind a backslash the bytes begin with so many that stand for this character, which has no more bytes than the escape.
-pub record Reads (bytes : List ℕ) (character count : ℕ) : Type 0 where
+pub record ReadsCharacter (bytes : List ℕ) (character count : ℕ) : Type 0 where
   pub within : count ≤ length bytes
   pub short : len_utf8 character ≤ count + 1
   pub stands : unescape_from (Some []) bytes ≡ put_before (encode_utf8 character) (unescape (drop count bytes))

@@ -3,7 +3,7 @@ ghost use Rattle.std.specs.Prelude.{◌≡◌, ◌<◌, ◌≤◌, ◌+◌, ◌-
 ghost use Rattle.std.specs.Char.{encode_utf8, len_utf8};
 ghost use Rattle.std.specs.List.{list_all, position, position_or_len};
 ghost use Rattle.sx_esis.specs.Escapes as spec;
-ghost use Rattle.sx_esis.specs.Replacing.{IsCut, IsOther, Reads, comes_to};
+ghost use Rattle.sx_esis.specs.Replacing.{IsCut, IsOther, ReadsCharacter, comes_to};
 
 use crate::faults::LineWhich;
 use crate::places::place_of;
@@ -86,7 +86,7 @@ fn move_plain(bytes: &mut [u8], places: Places) -> Places
 
 /// The escape whose backslash stands in front of these bytes.
 fn read_escape(bytes: &[u8]) -> Result<Replacement, LineWhich>
-    ensures ok { IfOk result (λ e. Reads bytes.now e.character e.count) }
+    ensures ok { IfOk result (λ e. ReadsCharacter bytes.now e.character e.count) }
     ensures err { IfErr result (λ w. spec.unescape_from (Some []) bytes.now ≡ Err w) }
 {
     match bytes {
@@ -106,7 +106,7 @@ fn read_escape(bytes: &[u8]) -> Result<Replacement, LineWhich>
 
 /// The escape of a decimal number and a semicolon behind `#`.
 fn decimal(bytes: &[u8]) -> Result<Replacement, LineWhich>
-    ensures ok { IfOk result (λ e. Reads (35 ∷ bytes.now) e.character e.count) }
+    ensures ok { IfOk result (λ e. ReadsCharacter (35 ∷ bytes.now) e.character e.count) }
     ensures err { IfErr result (λ w. spec.unescape_from (Some []) (35 ∷ bytes.now) ≡ Err w) }
 {
     let digits = digit_count(bytes);
@@ -123,7 +123,7 @@ fn decimal(bytes: &[u8]) -> Result<Replacement, LineWhich>
 /// The escape of three octal digits.
 fn octal(bytes: &[u8]) -> Result<Replacement, LineWhich>
     requires { IsOther bytes.now }
-    ensures ok { IfOk result (λ e. Reads bytes.now e.character e.count) }
+    ensures ok { IfOk result (λ e. ReadsCharacter bytes.now e.character e.count) }
     ensures err { IfErr result (λ w. spec.unescape_from (Some []) bytes.now ≡ Err w) }
 {
     if bytes.len() < 3 || !are_octal(&bytes[..3]) {

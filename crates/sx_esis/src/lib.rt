@@ -7,8 +7,6 @@ mod form;
 mod line_buffer;
 mod places;
 mod reader;
-#[cfg(test)]
-mod tests;
 
 pub use faults::{LineFault, LineWhich};
 pub use reader::{LineReader, LineView};

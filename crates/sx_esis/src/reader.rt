@@ -4,7 +4,7 @@ ghost use Rattle.std.specs.Str.{IsUtf8};
 ghost use Rattle.sx_esis.specs.Forms.{Fits, says_in};
 ghost use Rattle.sx_esis.specs.Lines.{line_within};
 ghost use Rattle.sx_esis.specs.Buffered.{taken_line, waiting};
-ghost use Rattle.sx_esis.specs.Stands.{IsShown, Stands, line_shown, unread};
+ghost use Rattle.sx_esis.specs.LineReader.{IsShown, LinesStand, line_shown, unread};
 ghost use Rattle.sx_esis.specs.Gives.{Advances, Fails, IsLineGiven, Judges, view_line};
 
 use crate::faults::{LineFault, LineWhich};
@@ -100,7 +100,7 @@ impl LineReader {
 
     /// A reader of lines of at most `limit` bytes, not counting the newline.
     pub fn new(alloc: Global, limit: u64) -> LineReader
-        ensures { Stands result limit [] false 0 }
+        ensures { LinesStand result limit [] false 0 }
     {
         LineReader {
             buffer: LineBuffer::new(alloc),
@@ -115,8 +115,8 @@ impl LineReader {
     /// Takes the next bytes. After an `Err`, which says that memory ran out, nothing has changed.
     /// Where a fault was met they change nothing.
     pub fn feed(&mut self, piece: &[u8]) -> Result<(), AllocError>
-        ensures ok { (limit : ℕ) (bytes : List ℕ) (given : ℕ) → Stands self.old limit bytes false given → OnOk result (Stands self.new limit (bytes ++ piece.now) false given) }
-        ensures err { (limit : ℕ) (bytes : List ℕ) (ended : Bool) (given : ℕ) → Stands self.old limit bytes ended given → OnErr result (Stands self.new limit bytes ended given) }
+        ensures ok { (limit : ℕ) (bytes : List ℕ) (given : ℕ) → LinesStand self.old limit bytes false given → OnOk result (LinesStand self.new limit (bytes ++ piece.now) false given) }
+        ensures err { (limit : ℕ) (bytes : List ℕ) (ended : Bool) (given : ℕ) → LinesStand self.old limit bytes ended given → OnErr result (LinesStand self.new limit bytes ended given) }
     {
         if self.fault.is_some() {
             return Ok(());
@@ -126,14 +126,14 @@ impl LineReader {
 
     /// Says that there are no more bytes.
     pub fn finish(&mut self)
-        ensures { (limit : ℕ) (bytes : List ℕ) (ended : Bool) (given : ℕ) → Stands self.old limit bytes ended given → Stands self.new limit bytes true given }
+        ensures { (limit : ℕ) (bytes : List ℕ) (ended : Bool) (given : ℕ) → LinesStand self.old limit bytes ended given → LinesStand self.new limit bytes true given }
     {
         self.ended = true;
     }
 
     /// The number of the last line given, counted from 1, and 0 before the first.
     pub fn line(&self) -> u64
-        ensures { (limit : ℕ) (bytes : List ℕ) (ended : Bool) (given : ℕ) → Stands self.now limit bytes ended given → length bytes < 2 ^ 62 → result ≡ given }
+        ensures { (limit : ℕ) (bytes : List ℕ) (ended : Bool) (given : ℕ) → LinesStand self.now limit bytes ended given → length bytes < 2 ^ 62 → result ≡ given }
     {
         self.number
     }
@@ -152,7 +152,7 @@ impl LineReader {
 
     /// Goes to the next line, which `view` then shows.
     fn advance(&mut self) -> Option<Result<(), LineFault>>
-        ensures gives { (limit : ℕ) (bytes : List ℕ) (ended : Bool) (given : ℕ) → Stands self.old limit bytes ended given → Advances limit bytes ended given self.new result }
+        ensures gives { (limit : ℕ) (bytes : List ℕ) (ended : Bool) (given : ℕ) → LinesStand self.old limit bytes ended given → Advances limit bytes ended given self.new result }
         ensures shown { IsLineGiven result → IsShown self.new }
         ensures progress { IsLineGiven result → unread self.new < unread self.old }
     {
@@ -165,7 +165,7 @@ impl LineReader {
     /// The same where no fault was met.
     fn go_on(&mut self) -> Option<Result<(), LineFault>>
         requires { self.old.fault ≡ None }
-        ensures gives { (limit : ℕ) (bytes : List ℕ) (ended : Bool) (given : ℕ) → Stands self.old limit bytes ended given → Advances limit bytes ended given self.new result }
+        ensures gives { (limit : ℕ) (bytes : List ℕ) (ended : Bool) (given : ℕ) → LinesStand self.old limit bytes ended given → Advances limit bytes ended given self.new result }
         ensures shown { IsLineGiven result → IsShown self.new }
         ensures progress { IsLineGiven result → unread self.new < unread self.old }
     {

@@ -3,9 +3,9 @@ use Rattle.std.proofs.Common.{◌≡◌, ℕ, suc, ◌+◌, List, [], ◌∷◌,
 use Rattle.sx_esis.specs.Lines.{Line, starts, ends, has, lacks, says, instructs, skips, conforms}
 use Rattle.sx_events.specs.Course.{Lined, Course, course, events_at, behind, by_fault, fault_next, put_events}
 use Rattle.sx_events.specs.Place.{Place, fault_of}
-use Rattle.sx_events.specs.declared.faults.DocFault.{DocFault}
-use Rattle.sx_events.specs.declared.faults.Which.{Which}
-use Rattle.sx_events.specs.declared.limits.Limits.{Limits}
+use Rattle.sx_limits.specs.declared.faults.DocFault.{DocFault}
+use Rattle.sx_limits.specs.declared.faults.Which.{Which}
+use Rattle.sx_limits.specs.declared.limits.Limits.{Limits}
 
 -- events in front of events
 put_twice : (e f : List Lined) (c : Course) → put_events e (put_events f c) ≡ put_events (e ++ f) c

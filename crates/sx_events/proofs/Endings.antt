@@ -2,7 +2,7 @@
 use Rattle.std.proofs.Common.{◌≡◌, ℕ, suc, ◌+◌, ◌-◌, ◌<◌, ◌≤◌, ◌^◌, min, Bool, true, false, List, [], ◌∷◌, ◌++◌, length, Option, Some, None, option_map, refl, ap, ap₂, sym, ◌∙◌, subst, arith, append-nil}
 use Rattle.sx_esis.specs.Lines as esis
 use Rattle.sx_tree.specs.Tree as tree
-use Rattle.sx_tree.specs.Tree.{Happening}
+use Rattle.sx_tree.specs.Tree.{TreeEvent}
 use Rattle.sx_tree.specs.declared.events.Event.TheVariants as event
 use Rattle.sx_esis.specs.declared.reader.LineReader.{LineReader}
 use Rattle.sx_events.specs.Course.{Lined, Course, course_of, reading, looked_at, is_beyond, run_in, run_of, closing, fault_next, break_of, events_of}
@@ -12,10 +12,10 @@ use Rattle.sx_events.specs.Reader.{Along, TookAll, Broke, EndsWell, Going, Stand
 use Rattle.sx_events.specs.Standing.{Flushed, count}
 use Rattle.sx_events.specs.declared.event_reader.Ending.{Ending}
 use Rattle.sx_events.specs.declared.event_reader.EventReader.{EventReader}
-use Rattle.sx_events.specs.declared.faults.DocFault.{DocFault}
-use Rattle.sx_events.specs.declared.faults.Which.{Which}
-use Rattle.sx_events.specs.declared.faults.Which.TheVariants as which
-use Rattle.sx_events.specs.declared.limits.Limits.{Limits}
+use Rattle.sx_limits.specs.declared.faults.DocFault.{DocFault}
+use Rattle.sx_limits.specs.declared.faults.Which.{Which}
+use Rattle.sx_limits.specs.declared.faults.Which.TheVariants as which
+use Rattle.sx_limits.specs.declared.limits.Limits.{Limits}
 use Rattle.sx_events.specs.declared.pending.Pending.{Pending}
 use Rattle.sx_events.specs.declared.pending.Waiting.{Waiting}
 use Rattle.sx_events.specs.declared.standing.Standing.{Standing}
@@ -24,8 +24,9 @@ use Rattle.sx_events.proofs.Growths.{broken_with, events_with, events_broken}
 use Rattle.sx_events.proofs.Lines.{held_none}
 use Rattle.sx_events.proofs.Looks.{looked-length}
 use Rattle.sx_events.proofs.Takings.{flushed_count}
+use Rattle.sx_names.specs.Numbering.{NameTable}
 
-module _ (r : LineReader) (s : Standing) (p : Pending) (limits : Limits) (names : List (List ℕ × List ℕ)) (b : List ℕ) (ended : Bool) (given line : ℕ)
+module _ (r : LineReader) (s : Standing) (p : Pending) (limits : Limits) (names : NameTable) (b : List ℕ) (ended : Bool) (given line : ℕ)
     (took : TookAll r s p limits names b ended given line) where
   abbrev place : Place
   place = (course_of limits b ended).place
@@ -98,14 +99,14 @@ module _ (r : LineReader) (s : Standing) (p : Pending) (limits : Limits) (names 
 
 -- ---- what stands where the run of text has been put behind what was given
 
-run_known : (names : List (List ℕ × List ℕ)) (old new : Standing) (p q : Pending) → Flushed old new q.text → IsIdle p → q.event ≡ p.event → (held names q ≡ run_in old.run.text old.run.line) × AreKnown names q
+run_known : (names : NameTable) (old new : Standing) (p q : Pending) → Flushed old new q.text → IsIdle p → q.event ≡ p.event → (held names q ≡ run_in old.run.text old.run.line) × AreKnown names q
 run_known names old new p q flushed idle same =
     let none = same ∙ idle.event in (
       ap₂ (λ (x : List Lined) (o : Option Waiting). x ++ held_in names o) (flushed.waits names).0 none ∙ append-nil (run_in old.run.text old.run.line),
       record { text = (flushed.waits names).1; event = subst (IsKnownIn names) (sym none) tt },
     )
 
-pends_with : (p q : Pending) (names : List (List ℕ × List ℕ)) (events here : List Lined) (given line : ℕ) → IsIdle p → held names q ≡ here → AreKnown names q →
+pends_with : (p q : Pending) (names : NameTable) (events here : List Lined) (given line : ℕ) → IsIdle p → held names q ≡ here → AreKnown names q →
     Pends p names events given line → Pends q names (events ++ here) given line
 pends_with p q names events here given line idle is known pends = record {
   front = pends.front;
@@ -115,7 +116,7 @@ pends_with p q names events here given line idle is known pends = record {
   last = pends.last;
 }
 
-module _ (old new : Standing) (p q : Pending) (limits : Limits) (names : List (List ℕ × List ℕ)) (b : List ℕ) (ended : Bool) (given line : ℕ) where
+module _ (old new : Standing) (p q : Pending) (limits : Limits) (names : NameTable) (b : List ℕ) (ended : Bool) (given line : ℕ) where
   abbrev c : Course
   c = course_of limits b ended
 
@@ -152,7 +153,7 @@ module _ (old new : Standing) (p q : Pending) where
       let event : one_of q.event ≡ 1 = ap one_of is in
       omega (arith, text, event)
 
-module _ (r : EventReader) (limits : Limits) (names : List (List ℕ × List ℕ)) (b : List ℕ) (ended : Bool) (given : ℕ) where
+module _ (r : EventReader) (limits : Limits) (names : NameTable) (b : List ℕ) (ended : Bool) (given : ℕ) where
   -- it is known how the bytes end
   pub rests_ended : (e : Ending) → r.ending ≡ Some e → StandsAt (Some e) r limits names b ended given → Rests r limits names b ended given
   rests_ended e is stands = record {

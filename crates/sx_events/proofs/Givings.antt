@@ -1,10 +1,11 @@
 -- An event that waits is given.
 use Rattle.std.proofs.Common.{◌≡◌, ℕ, suc, List, [], ◌∷◌, ◌++◌, length, slice_get, Option, Some, None, IfSome, refl, ap, ap₂, sym, ◌∙◌, subst, arith, append_assoc, length-append}
-use Rattle.sx_tree.specs.Named.{IsKnown}
+use Rattle.sx_named.specs.Named.{IsKnown}
 use Rattle.sx_events.specs.Course.{Lined, whats, line_behind}
 use Rattle.sx_events.specs.Pending.{lined, held, held_in, IsKnownIn, AreKnown, Pends, GivesNext}
 use Rattle.sx_events.specs.declared.pending.Pending.{Pending}
 use Rattle.sx_events.specs.declared.pending.Waiting.{Waiting}
+use Rattle.sx_names.specs.Numbering.{NameTable}
 
 -- the event behind others
 at_seam : (xs ys : List Lined) (x : Lined) → slice_get (whats (xs ++ x ∷ ys)) (length xs) ≡ Some x.what
@@ -23,7 +24,7 @@ front_line [] (y ∷ ys) = refl
 front_line (x ∷ []) ys = refl
 front_line (x ∷ z ∷ xs) ys = front_line (z ∷ xs) ys
 
-module _ (old new : Pending) (names : List (List ℕ × List ℕ)) (events : List Lined) (given line : ℕ) (pends : Pends old names events given line) where
+module _ (old new : Pending) (names : NameTable) (events : List Lined) (given line : ℕ) (pends : Pends old names events given line) where
   gives_first : (w : Waiting) → held names old ≡ lined names w ∷ held names new → IsKnown names w.event → AreKnown names new → GivesNext new names events given w
   gives_first w first known rest =
       let whole : events ≡ pends.front ++ lined names w ∷ held names new = pends.splits ∙ ap (λ (x : List Lined). pends.front ++ x) first in
@@ -59,6 +60,6 @@ module _ (old new : Pending) (names : List (List ℕ × List ℕ)) (events : Lis
       (record { text = subst (IsKnownIn names) (sym text) tt; event = subst (IsKnownIn names) (sym event) tt })
 
 pub gives_last : (old new : Pending) (o : Option Waiting) → old.text ≡ None → old.event ≡ o → new.text ≡ None → new.event ≡ None →
-    IfSome o (λ first. (names : List (List ℕ × List ℕ)) (events : List Lined) (given line : ℕ) → Pends old names events given line → GivesNext new names events given first)
+    IfSome o (λ first. (names : NameTable) (events : List Lined) (given line : ℕ) → Pends old names events given line → GivesNext new names events given first)
 gives_last old new None none was text event = tt
 gives_last old new (Some w) none was text event = λ names events given line pends. gives_event old new names events given line pends w none was text event

@@ -3,19 +3,19 @@ use Rattle.std.proofs.Common.{◌≡◌, ℕ, Bool, true, false, not, ◌&&◌, 
 use Rattle.sx_esis.specs.Lines as esis
 use Rattle.sx_esis.specs.Lines.{Line, Reading, lines_of}
 use Rattle.sx_esis.proofs.Grow.{reading_grows, fault_stays}
-use Rattle.sx_tree.specs.Named.{Begun}
-use Rattle.sx_tree.specs.Tree.{Happening}
+use Rattle.sx_named.specs.Named.{ElementStart}
+use Rattle.sx_tree.specs.Tree.{TreeEvent}
 use Rattle.sx_events.specs.Course.{Lined, Course, course, course_of, reading, is_beyond, or_else, last_fault, last_events, run_of, break_of, events_of, whats, put_events}
 use Rattle.sx_events.specs.Laws.{Grows, StaysBroken}
 use Rattle.sx_events.specs.Place.{Place, beginning}
-use Rattle.sx_events.specs.declared.faults.DocFault.{DocFault}
-use Rattle.sx_events.specs.declared.limits.Limits.{Limits}
+use Rattle.sx_limits.specs.declared.faults.DocFault.{DocFault}
+use Rattle.sx_limits.specs.declared.limits.Limits.{Limits}
 use Rattle.sx_events.proofs.Courses.{course-sound, course-broken}
 use Rattle.sx_events.proofs.Looks.{looks_within, looks_more, stays_beyond, reading_beyond}
 
 pub whats-append : (xs ys : List Lined) → whats (xs ++ ys) ≡ whats xs ++ whats ys
 whats-append [] ys = refl
-whats-append (x ∷ xs) ys = ap (λ (hs : List (Happening Begun)). x.what ∷ hs) (whats-append xs ys)
+whats-append (x ∷ xs) ys = ap (λ (hs : List (TreeEvent ElementStart)). x.what ∷ hs) (whats-append xs ys)
 
 -- the break and the events of a course, by what is read behind it
 abbrev pub broken_with : Option DocFault → Place → Option esis.Fault → Bool → Bool → Option DocFault

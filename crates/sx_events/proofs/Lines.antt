@@ -6,15 +6,15 @@ use Rattle.sx_esis.specs.Lines.{Line, Reading}
 use Rattle.sx_esis.specs.declared.faults.LineFault.{LineFault}
 use Rattle.sx_esis.specs.declared.faults.LineWhich.{LineWhich}
 use Rattle.sx_esis.specs.declared.reader.LineReader.{LineReader}
-use Rattle.sx_names.specs.Numbering.{KeepsPlaces}
+use Rattle.sx_names.specs.Numbering.{NameTable, KeepsPlaces}
 use Rattle.sx_events.specs.Course.{Lined, Course, course, course_of, events_at, behind, by_fault, fault_next, put_events, reading, looked_at, is_beyond, run_in, run_of, which_of}
 use Rattle.sx_events.specs.Pending.{held, held_in, IsIdle, AreKnown, Pends}
 use Rattle.sx_events.specs.Place.{Place, beginning, fault_of}
-use Rattle.sx_events.specs.Reader.{Reads, Along, TookAll, Broke}
+use Rattle.sx_events.specs.Reader.{TakesLines, Along, TookAll, Broke}
 use Rattle.sx_events.specs.Standing.{Knows, Took}
-use Rattle.sx_events.specs.declared.faults.DocFault.{DocFault}
-use Rattle.sx_events.specs.declared.faults.Which.{Which}
-use Rattle.sx_events.specs.declared.limits.Limits.{Limits}
+use Rattle.sx_limits.specs.declared.faults.DocFault.{DocFault}
+use Rattle.sx_limits.specs.declared.faults.Which.{Which}
+use Rattle.sx_limits.specs.declared.limits.Limits.{Limits}
 use Rattle.sx_events.specs.declared.pending.Pending.{Pending}
 use Rattle.sx_events.specs.declared.pending.Waiting.{Waiting}
 use Rattle.sx_events.specs.declared.run.Run.{Run}
@@ -37,11 +37,11 @@ front_next [] [] l h = absurd (cc)
 front_next [] (x ∷ more) l h = (more, cc)
 front_next (y ∷ front) more l h = front_next front more l h
 
-pub held_none : (names : List (List ℕ × List ℕ)) (p : Pending) → IsIdle p → held names p ≡ []
+pub held_none : (names : NameTable) (p : Pending) → IsIdle p → held names p ≡ []
 held_none names p idle = ap₂ (λ (x y : Option Waiting). held_in names x ++ held_in names y) idle.text idle.event
 
 -- where nothing waited, what waits now are the events that came
-pends_more : (old new : Pending) (names more : List (List ℕ × List ℕ)) (events here : List Lined) (given line : ℕ) → IsIdle old → held more new ≡ here → AreKnown more new →
+pends_more : (old new : Pending) (names more : NameTable) (events here : List Lined) (given line : ℕ) → IsIdle old → held more new ≡ here → AreKnown more new →
     Pends old names events given line → Pends new more (events ++ here) given line
 pends_more old new names more events here given line idle is known pends = record {
   front = pends.front;
@@ -51,7 +51,7 @@ pends_more old new names more events here given line idle is known pends = recor
   last = pends.last;
 }
 
-module _ (r : LineReader) (s : Standing) (p : Pending) (limits : Limits) (names : List (List ℕ × List ℕ)) (b : List ℕ) (ended : Bool) (given line : ℕ)
+module _ (r : LineReader) (s : Standing) (p : Pending) (limits : Limits) (names : NameTable) (b : List ℕ) (ended : Bool) (given line : ℕ)
     (along : Along r s p limits names b ended given line) where
   abbrev front : List Line
   front = along.front
@@ -74,13 +74,13 @@ module _ (r : LineReader) (s : Standing) (p : Pending) (limits : Limits) (names 
   all_front same = front_all (reading limits b ended).lines front along.more along.lines same
 
   -- all lines were taken
-  pub took_all : (new : LineReader) → GaveAll (reading limits b ended) (length front) → Reads new limits b ended (length front) → TookAll new s p limits names b ended given line
+  pub took_all : (new : LineReader) → GaveAll (reading limits b ended) (length front) → TakesLines new limits b ended (length front) → TookAll new s p limits names b ended given line
   took_all new gave reads =
       let all = all_front gave.all in
       record {
         small = along.small;
         whole = gave.sound;
-        reads = subst (λ (n : ℕ). Reads new limits b ended n) gave.all reads;
+        reads = subst (λ (n : ℕ). TakesLines new limits b ended n) gave.all reads;
         sound = subst (λ (ls : List Line). (course limits beginning ls).fault ≡ None) all along.sound;
         knows = subst (λ (ls : List Line). Knows s (course limits beginning ls).place) all along.knows;
         pends = subst (λ (ls : List Line). Pends p names (course limits beginning ls).events given line) all along.pends;
@@ -111,7 +111,7 @@ module _ (r : LineReader) (s : Standing) (p : Pending) (limits : Limits) (names 
     rest = front_next front along.more l (ap (λ (ls : List Line). slice_get ls (length front)) (sym along.lines) ∙ next)
 
     -- one line more was taken
-    pub took_line : (new : LineReader) (s' : Standing) (p' : Pending) (names' : List (List ℕ × List ℕ)) → IsIdle p → Reads new limits b ended (length front + 1) →
+    pub took_line : (new : LineReader) (s' : Standing) (p' : Pending) (names' : NameTable) → IsIdle p → TakesLines new limits b ended (length front + 1) →
         fault_of limits place l ≡ None → Took s' names' p' place l → Along new s' p' limits names' b ended given line
     took_line new s' p' names' idle reads sound took =
         let is = course-next limits beginning front l along.sound sound in
@@ -120,7 +120,7 @@ module _ (r : LineReader) (s : Standing) (p : Pending) (limits : Limits) (names 
           front = front ++ l ∷ [];
           more = rest.0;
           lines = along.lines ∙ ap (λ (ls : List Line). front ++ ls) rest.1 ∙ sym (append_assoc front (l ∷ []) rest.0);
-          reads = subst (λ (n : ℕ). Reads new limits b ended n) (sym (length-append front (l ∷ []))) reads;
+          reads = subst (λ (n : ℕ). TakesLines new limits b ended n) (sym (length-append front (l ∷ []))) reads;
           sound = ap (λ (c : Course). c.fault) is;
           knows = subst (Knows s') (sym (ap (λ (c : Course). c.place) is)) took.knows;
           pends = subst (λ (es : List Lined). Pends p' names' es given line) (sym (ap (λ (c : Course). c.events) is))
@@ -136,7 +136,7 @@ module _ (r : LineReader) (s : Standing) (p : Pending) (limits : Limits) (names 
         ∙ ap (λ (es : List Lined). record { events = es; place = place; fault = Some (fault_next place w) }) (append-nil c.events)
 
     -- one line more is at fault
-    pub took_fault : (s' : Standing) (p' : Pending) (names' : List (List ℕ × List ℕ)) (w : Which) (number : ℕ) → IsIdle p → number ≡ suc place.lines → fault_of limits place l ≡ Some w →
+    pub took_fault : (s' : Standing) (p' : Pending) (names' : NameTable) (w : Which) (number : ℕ) → IsIdle p → number ≡ suc place.lines → fault_of limits place l ≡ Some w →
         s'.run ≡ s.run → p' ≡ p → KeepsPlaces names names' → Broke s' p' limits names' b ended given line (record { which = w; line = number })
     took_fault s' p' names' w number idle is at_fault run same kept =
         let stop = stopped w at_fault in

@@ -5,7 +5,7 @@ use Rattle.std.proofs.lemmas.Bool.{ltb-true, ltb-false, le-ltb, lt-ltb, eq-eqb, 
 use Rattle.std.proofs.lemmas.List.{take_all, take-append-le, length-take, get_or_append_left, get_or-append_right, get_or_read}
 use Rattle.sx_esis.specs.Lines.{lines_of}
 use Rattle.sx_events.specs.Course.{ends_line, is_beyond, looked_at, reading}
-use Rattle.sx_events.specs.declared.limits.Limits.{Limits}
+use Rattle.sx_limits.specs.declared.limits.Limits.{Limits}
 
 -- a front that may reach beyond the first of two lists
 pub take_more : (n : ℕ) (b d : List ℕ) → length b ≤ n → take n (b ++ d) ≡ b ++ take (n - length b) d

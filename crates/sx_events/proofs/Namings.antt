@@ -1,10 +1,10 @@
 -- What labels, attributes and events are called, where the table of names has grown.
 use Rattle.std.proofs.Common.{◌≡◌, ℕ, ◌<◌, Bool, true, false, ◌&&◌, ◌||◌, List, [], ◌∷◌, ◌++◌, length, slice_get, Option, Some, None, refl, ap, ap₂, sym, ◌∙◌, subst}
-use Rattle.sx_names.specs.Numbering.{IsDistinct, KeepsPlaces, uri_at, local_at}
+use Rattle.sx_names.specs.Numbering.{NameTable, IsDistinct, KeepsPlaces, uri_at, local_at}
 use Rattle.sx_names.proofs.Places.{KeepsPlaces-trans, place_stays, within_stays, place_of_parts, uri_at-place, local_at-place}
-use Rattle.sx_tree.specs.Named.{Name, Attribute, Begun, name_at, attribute_at, attributes_at, IsNumbered, AreNumbered, IsKnown, named}
+use Rattle.sx_named.specs.Named.{Name, Attribute, ElementStart, name_at, attribute_at, attributes_at, IsNumbered, AreNumbered, IsKnown, named}
 use Rattle.sx_tree.specs.Tree as tree
-use Rattle.sx_tree.specs.Tree.{Happening}
+use Rattle.sx_tree.specs.Tree.{TreeEvent}
 use Rattle.sx_tree.specs.declared.events.Attr.{Attr}
 use Rattle.sx_tree.specs.declared.events.Event.{Event}
 use Rattle.sx_tree.specs.declared.events.Event.TheVariants as event
@@ -16,8 +16,9 @@ use Rattle.sx_events.specs.Starting.{IsLabelOf, AreAttributesOf}
 use Rattle.sx_events.specs.declared.pending.Pending.{Pending}
 use Rattle.sx_events.specs.declared.pending.Waiting.{Waiting}
 use Rattle.sx_chars.specs.Names.{prefix_of}
+use Rattle.sx_names.specs.Scope.{ScopeBindings}
 
-module _ (old new : List (List ℕ × List ℕ)) (kept : KeepsPlaces old new) where
+module _ (old new : NameTable) (kept : KeepsPlaces old new) where
   parts_stay : (n : ℕ) → n < length old → slice_get new n ≡ Some (uri_at old n, local_at old n)
   parts_stay n h = place_stays old new kept n (uri_at old n, local_at old n) (place_of_parts old n h)
 
@@ -62,7 +63,7 @@ module _ (old new : List (List ℕ × List ℕ)) (kept : KeepsPlaces old new) wh
   held_in_stays None h = (refl, tt)
   held_in_stays (Some w) h =
       let more = named_stays w.event h in
-      (ap (λ (what : Happening Begun). record { what = what; line = w.line } ∷ []) more.0, more.1)
+      (ap (λ (what : TreeEvent ElementStart). record { what = what; line = w.line } ∷ []) more.0, more.1)
 
   pub held_stays : (p : Pending) → AreKnown old p → (held new p ≡ held old p) × AreKnown new p
   held_stays p h =
@@ -85,13 +86,13 @@ module _ (old new : List (List ℕ × List ℕ)) (kept : KeepsPlaces old new) wh
 -- ---- the names of attributes
 
 -- These attribute lines have bound prefixes, and are these attributes.
-pub record Resolved (old new : List (List ℕ × List ℕ)) (scope : List (List (List ℕ × List ℕ))) (lines : List Written) (attrs : List Attr) : Type 0 where
+pub record Resolved (old new : NameTable) (scope : ScopeBindings) (lines : List Written) (attrs : List Attr) : Type 0 where
   pub bound : all_bound scope lines ≡ true
   pub named : AreAttributesOf new (attributes_in scope lines) attrs
   pub kept : KeepsPlaces old new
   pub distinct : IsDistinct old → IsDistinct new
 
-all_bound-append : (scope : List (List (List ℕ × List ℕ))) (ls : List Written) (w : Written) (more : List Written) → all_bound scope ls ≡ true →
+all_bound-append : (scope : ScopeBindings) (ls : List Written) (w : Written) (more : List Written) → all_bound scope ls ≡ true →
     all_bound scope (ls ++ w ∷ more) ≡ ((is_empty (prefix_of w.name) || is_bound_prefix scope w.name) && all_bound scope more)
 all_bound-append scope [] w more h = refl
 all_bound-append scope (l ∷ ls) w more h = step (is_empty (prefix_of l.name) || is_bound_prefix scope l.name) (all_bound scope ls) h (all_bound-append scope ls w more)
@@ -100,19 +101,19 @@ all_bound-append scope (l ∷ ls) w more h = step (is_empty (prefix_of l.name) |
     step true a e is = is e
     step false a e is = absurd (cc)
 
-attributes_in-append : (scope : List (List (List ℕ × List ℕ))) (ls : List Written) (w : Written) →
+attributes_in-append : (scope : ScopeBindings) (ls : List Written) (w : Written) →
     attributes_in scope (ls ++ w ∷ []) ≡ attributes_in scope ls ++ record { name = attribute_name scope w.name; value = w.value } ∷ []
 attributes_in-append scope [] w = refl
 attributes_in-append scope (l ∷ ls) w = ap (λ (xs : List Attribute). record { name = attribute_name scope l.name; value = l.value } ∷ xs) (attributes_in-append scope ls w)
 
-attributes_at-append : (names : List (List ℕ × List ℕ)) (attrs : List Attr) (a : Attr) → AreNumbered names attrs → IsNumbered names a.label →
+attributes_at-append : (names : NameTable) (attrs : List Attr) (a : Attr) → AreNumbered names attrs → IsNumbered names a.label →
     (attributes_at names (attrs ++ a ∷ []) ≡ attributes_at names attrs ++ attribute_at names a ∷ []) × AreNumbered names (attrs ++ a ∷ [])
 attributes_at-append names [] a h k = (refl, (k, tt))
 attributes_at-append names (b ∷ attrs) a h k =
     let more = attributes_at-append names attrs a h.1 k in
     (ap (λ (xs : List Attribute). attribute_at names b ∷ xs) more.0, (h.0, more.1))
 
-module _ (old mid new : List (List ℕ × List ℕ)) (scope : List (List (List ℕ × List ℕ))) (ls : List Written) (attrs : List Attr) (w : Written) (so_far : Resolved old mid scope ls attrs) where
+module _ (old mid new : NameTable) (scope : ScopeBindings) (ls : List Written) (attrs : List Attr) (w : Written) (so_far : Resolved old mid scope ls attrs) where
   abbrev is_resolved : List ℕ → Bool
   is_resolved name = is_empty (prefix_of name) || is_bound_prefix scope name
 

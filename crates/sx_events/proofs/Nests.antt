@@ -5,22 +5,22 @@ use Rattle.sx_chars.specs.Names.{before_space, from_space, without_leading_space
 use Rattle.sx_esis.specs.Lines as esis
 use Rattle.sx_esis.specs.Lines.{Line, starts, ends, has, lacks, says, instructs, skips, conforms}
 use Rattle.sx_tree.specs.Events.{is_text, ends_in_text}
-use Rattle.sx_tree.specs.Named.{Begun}
+use Rattle.sx_named.specs.Named.{ElementStart}
 use Rattle.sx_tree.specs.Tree as tree
-use Rattle.sx_tree.specs.Tree.{Happening, Forest, none, text, instruction, Document, has_open, open_elements, push_node, push_end, tree_of}
+use Rattle.sx_tree.specs.Tree.{TreeEvent, Forest, none, text, instruction, Document, has_open, open_elements, push_node, push_end, tree_of}
 use Rattle.sx_tree.proofs.Follow.{ends_in_text-snoc}
 use Rattle.sx_tree.proofs.Open.{tree_of-snoc, open-push_node, open-push_end, has_open-is, none_open, open-none}
 use Rattle.sx_events.specs.Course.{Lined, Course, course, course_of, reading, is_beyond, events_at, behind, by_fault, fault_next, put_events, rest_of, run_in, run_of, then_here, begun, instruction as instruction_of, last_events, closing, break_of, events_of, whats}
 use Rattle.sx_events.specs.Laws.{AllFollow}
 use Rattle.sx_events.specs.Place.{Place, beginning, fault_of, is_root_closed, is_of_element, needs_root, may_follow_attributes, is_mismatch, own_fault, first_is, is_empty, end_fault}
-use Rattle.sx_events.specs.declared.faults.DocFault.{DocFault}
-use Rattle.sx_events.specs.declared.faults.Which.{Which}
-use Rattle.sx_events.specs.declared.faults.Which.TheVariants as which
-use Rattle.sx_events.specs.declared.limits.Limits.{Limits}
+use Rattle.sx_limits.specs.declared.faults.DocFault.{DocFault}
+use Rattle.sx_limits.specs.declared.faults.Which.{Which}
+use Rattle.sx_limits.specs.declared.faults.Which.TheVariants as which
+use Rattle.sx_limits.specs.declared.limits.Limits.{Limits}
 use Rattle.sx_events.proofs.Growths.{whats-append, broken_with}
 
 abbrev Events : Type 0
-Events = List (Happening Begun)
+Events = List (TreeEvent ElementStart)
 
 -- the document is open, with so many open elements
 pub record Open (es : Events) (n : ℕ) : Type 0 where
@@ -34,16 +34,16 @@ pub record Nests (es : Events) (p : Place) : Type 0 where
   pub conformed : p.conformed ≡ true → p.text ≡ []
   pub quiet : p.is_loose ≡ false → p.conformed ≡ false → ends_in_text es ≡ false
 
-after : (es : Events) (h : Happening Begun) (n : ℕ) → (tree.push (tree_of es) h).is_open ≡ true → length (open_elements (tree.push (tree_of es) h).content) ≡ n → Open (es ++ h ∷ []) n
+after : (es : Events) (h : TreeEvent ElementStart) (n : ℕ) → (tree.push (tree_of es) h).is_open ≡ true → length (open_elements (tree.push (tree_of es) h).content) ≡ n → Open (es ++ h ∷ []) n
 after es h n going depth = record {
-  going = ap (λ (d : Document Begun). d.is_open) (tree_of-snoc es h) ∙ going;
-  depth = ap (λ (d : Document Begun). length (open_elements d.content)) (tree_of-snoc es h) ∙ depth;
+  going = ap (λ (d : Document ElementStart). d.is_open) (tree_of-snoc es h) ∙ going;
+  depth = ap (λ (d : Document ElementStart). length (open_elements d.content)) (tree_of-snoc es h) ∙ depth;
 }
 
-pushed : (f node : Forest Begun) (n k : ℕ) → length (open_elements f) ≡ n → length (open_elements node) ≡ k → length (open_elements (push_node f node)) ≡ n + k
-pushed f node n k i j = ap (λ (xs : List Begun). length xs) (open-push_node f node) ∙ omega (arith, length-append (open_elements f) (open_elements node), i, j)
+pushed : (f node : Forest ElementStart) (n k : ℕ) → length (open_elements f) ≡ n → length (open_elements node) ≡ k → length (open_elements (push_node f node)) ≡ n + k
+pushed f node n k i j = ap (λ (xs : List ElementStart). length xs) (open-push_node f node) ∙ omega (arith, length-append (open_elements f) (open_elements node), i, j)
 
-open_start : (es : Events) (n : ℕ) (b : Begun) → Open es n → Open (es ++ tree.starts b ∷ []) (suc n)
+open_start : (es : Events) (n : ℕ) (b : ElementStart) → Open es n → Open (es ++ tree.starts b ∷ []) (suc n)
 open_start es n b o = after es (tree.starts b) (suc n) o.going (omega (arith, pushed (tree_of es).content (tree.begun (tree.starts b)) n 1 o.depth refl))
 
 open_text : (es : Events) (n : ℕ) (s : List ℕ) → Open es n → Open (es ++ tree.says s ∷ []) n
@@ -53,17 +53,17 @@ open_instruction : (es : Events) (n : ℕ) (t c : List ℕ) → Open es n → Op
 open_instruction es n t c o = after es (tree.instructs t c) n o.going (omega (arith, pushed (tree_of es).content (tree.begun (tree.instructs t c)) n 0 o.depth refl))
 
 -- where elements are open, one is
-some_open : (f : Forest Begun) (n : ℕ) → length (open_elements f) ≡ suc n → has_open f ≡ true
+some_open : (f : Forest ElementStart) (n : ℕ) → length (open_elements f) ≡ suc n → has_open f ≡ true
 some_open f n is = by (has_open f) refl
   where
     by : (v : Bool) → has_open f ≡ v → has_open f ≡ true
     by true h = h
-    by false h = absurd (let empty = ap (λ (xs : List Begun). length xs) (none_open f h) in omega (arith, empty, is))
+    by false h = absurd (let empty = ap (λ (xs : List ElementStart). length xs) (none_open f h) in omega (arith, empty, is))
 
-not_open : (f : Forest Begun) → length (open_elements f) ≡ 0 → has_open f ≡ false
+not_open : (f : Forest ElementStart) → length (open_elements f) ≡ 0 → has_open f ≡ false
 not_open f is = open-none f (by (open_elements f) is)
   where
-    by : (xs : List Begun) → length xs ≡ 0 → xs ≡ []
+    by : (xs : List ElementStart) → length xs ≡ 0 → xs ≡ []
     by [] h = refl
     by (x ∷ xs) h = absurd (omega (arith, h))
 
@@ -71,8 +71,8 @@ open_end : (es : Events) (n : ℕ) → Open es (suc n) → Open (es ++ tree.ends
 open_end es n o =
     let f = (tree_of es).content in
     let last = has_open-is f (some_open f n o.depth) in
-    let fewer = ap (λ (xs : List Begun). length xs) (open-push_end f last.0 last.1 last.2) in
-    let all = ap (λ (xs : List Begun). length xs) last.2 in
+    let fewer = ap (λ (xs : List ElementStart). length xs) (open-push_end f last.0 last.1 last.2) in
+    let all = ap (λ (xs : List ElementStart). length xs) last.2 in
     after es tree.ends n o.going (fewer ∙ omega (arith, all, length-append last.0 (last.1 ∷ []), o.depth))
 
 -- ---- each may follow
@@ -117,13 +117,13 @@ run_follows es p nests =
     nests.stage
 
 -- behind the run of text something else happens
-then_leads : (es : Events) (p : Place) (h : Happening Begun) (m : ℕ) → Nests es p → ((fs : Events) → Open fs (length p.opened) → Leads fs (h ∷ []) m) → Leads es (whats (then_here p h)) m
+then_leads : (es : Events) (p : Place) (h : TreeEvent ElementStart) (m : ℕ) → Nests es p → ((fs : Events) → Open fs (length p.opened) → Leads fs (h ∷ []) m) → Leads es (whats (then_here p h)) m
 then_leads es p h m nests next =
     let r = run_follows es p nests in
     subst (λ (q : Events). Leads es q m) (sym (whats-append (run_of p) (record { what = h; line = suc p.lines } ∷ [])))
     (both es (whats (run_of p)) (h ∷ []) (length p.opened) m r (next (es ++ whats (run_of p)) r.stage))
 
-then_quiet : (es : Events) (p : Place) (h : Happening Begun) → is_text h ≡ false → ends_in_text (es ++ whats (then_here p h)) ≡ false
+then_quiet : (es : Events) (p : Place) (h : TreeEvent ElementStart) → is_text h ≡ false → ends_in_text (es ++ whats (then_here p h)) ≡ false
 then_quiet es p h not_text =
     ap (λ (q : Events). ends_in_text (es ++ q)) (whats-append (run_of p) (record { what = h; line = suc p.lines } ∷ []))
     ∙ ap ends_in_text (sym (append_assoc es (whats (run_of p)) (h ∷ [])))
@@ -167,7 +167,7 @@ next_of es more n p leads is loose conformed quiet = record {
   nests = record { stage = subst (Open (es ++ more)) is leads.stage; loose = loose; conformed = conformed; quiet = quiet };
 }
 
-on_start : (fs : Events) (n : ℕ) (b : Begun) → Open fs n → Leads fs (tree.starts b ∷ []) (suc n)
+on_start : (fs : Events) (n : ℕ) (b : ElementStart) → Open fs n → Leads fs (tree.starts b ∷ []) (suc n)
 on_start fs n b o = record { follow = (record { not_closed = o.going; allowed = tt }, tt); stage = open_start fs n b o }
 
 on_instruction : (fs : Events) (n : ℕ) (t c : List ℕ) → Open fs n → Leads fs (tree.instructs t c ∷ []) n
@@ -303,7 +303,7 @@ module _ (limits : Limits) (b : List ℕ) (ended : Bool) where
       (follow-append [] (whats c.events) (lasts (is_some (break_of limits b ended)) ended) before.follow
       (last_follow (is_some (break_of limits b ended)) ended ends_well))
 
-  abbrev tree_with : Bool → Bool → Document Begun
+  abbrev tree_with : Bool → Bool → Document ElementStart
   tree_with broken e = tree_of (whats (c.events ++ last_events c.place broken e))
 
   -- where there is no close, the tree is open
@@ -324,7 +324,7 @@ module _ (limits : Limits) (b : List ℕ) (ended : Bool) where
   closed_where sound told = ap₂ tree_with sound told ∙ closed_tree
 
   pub none_open_where : is_some (break_of limits b ended) ≡ false → ended ≡ true → has_open (tree_of (whats (events_of limits b ended))).content ≡ false
-  none_open_where sound told = ap (λ (d : Document Begun). has_open d.content) (closed_where sound told) ∙ none_open_left (ends_well sound told)
+  none_open_where sound told = ap (λ (d : Document ElementStart). has_open d.content) (closed_where sound told) ∙ none_open_left (ends_well sound told)
 
 past_limit : (fault : Option DocFault) (p : Place) (f : Option esis.Fault) (ended : Bool) → broken_with fault p f true ended ≢ None
 past_limit (Some x) p f ended h = absurd (cc)

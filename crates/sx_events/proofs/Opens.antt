@@ -5,9 +5,10 @@ use Rattle.std.proofs.lemmas.List.{take_more}
 use Rattle.sx_tree.specs.declared.events.Space.{Space}
 use Rattle.sx_events.specs.Place.{declared_behind}
 use Rattle.sx_events.specs.Standing.{AreNames}
+use Rattle.sx_names.specs.Scope.{Declarations}
 
 abbrev Declared : Type 0
-Declared = List (List ℕ × List ℕ)
+Declared = Declarations
 
 declared_behind-append : (before : Declared) (ss : List Space) (s : Space) → declared_behind before (ss ++ s ∷ []) ≡ (s.prefix, s.uri) ∷ declared_behind before ss
 declared_behind-append before [] s = refl

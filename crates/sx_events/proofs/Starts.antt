@@ -2,24 +2,25 @@
 use Rattle.std.proofs.Common.{◌≡◌, ℕ, Bool, true, false, not, cond, ◌&&◌, ◌||◌, ◌==◌, nat_lt, eq-eqb, List, [], ◌∷◌, length, Some, None, refl, ap, ap₂, sym, ◌∙◌}
 use Rattle.std.proofs.lemmas.Bool.{false≢true, eqb-true}
 use Rattle.std.proofs.lemmas.Slice.Eq.{bytes_eq-Decides}
-use Rattle.sx_names.specs.Numbering.{IsDistinct, KeepsPlaces, uri_at, local_at}
+use Rattle.sx_names.specs.Numbering.{NameTable, IsDistinct, KeepsPlaces, uri_at, local_at}
 use Rattle.sx_names.proofs.Places.{place_of_parts}
-use Rattle.sx_tree.specs.Named.{Name, Attribute, name_at, attributes_at, is_same_name, IsNumbered, AreNumbered}
+use Rattle.sx_named.specs.Named.{Name, Attribute, name_at, attributes_at, is_same_name, IsNumbered, AreNumbered}
 use Rattle.sx_tree.specs.Tree as tree
-use Rattle.sx_tree.specs.Tree.{Happening}
+use Rattle.sx_tree.specs.Tree.{TreeEvent}
 use Rattle.sx_tree.specs.declared.events.Attr.{Attr}
 use Rattle.sx_tree.specs.declared.events.Label.{Label}
 use Rattle.sx_tree.specs.declared.events.Space.{Space}
 use Rattle.sx_events.specs.Course.{begun}
 use Rattle.sx_events.specs.Place.{Place, Written, spaces_of, ordinary, scope_with, declares_twice, has_bad, most_open, start_fault, is_bound_prefix, all_bound, element_name, attributes_in, has_name, has_double}
 use Rattle.sx_events.specs.Starting.{IsLabelOf, AreAttributesOf, spaces_fault, has_number, has_double_number}
-use Rattle.sx_events.specs.declared.faults.Which.TheVariants as which
-use Rattle.sx_events.specs.declared.limits.Limits.{Limits}
+use Rattle.sx_limits.specs.declared.faults.Which.TheVariants as which
+use Rattle.sx_limits.specs.declared.limits.Limits.{Limits}
 use Rattle.sx_events.proofs.Namings.{label_stays}
+use Rattle.sx_names.specs.Scope.{ScopeBindings}
 
 -- ---- two attributes of one name have one number
 
-module _ (names : List (List ℕ × List ℕ)) (distinct : IsDistinct names) where
+module _ (names : NameTable) (distinct : IsDistinct names) where
   -- one name, one number
   one_number : (a b : Label) → IsNumbered names a → IsNumbered names b → uri_at names a.number ≡ uri_at names b.number → local_at names a.number ≡ local_at names b.number → a.number ≡ b.number
   one_number a b h k uri local =
@@ -67,19 +68,19 @@ after_all false false false true v h i j = absurd (cc)
 after_all false false false false v h i j = refl
 
 module _ (limits : Limits) (p : Place) (name : List ℕ) (lines : List Written) (declared : List Space) (lines_are : lines ≡ ordinary p.attributes) (declared_are : declared ≡ spaces_of p.attributes)
-    (scope : List (List (List ℕ × List ℕ))) (in_force : scope ≡ scope_with p p.attributes)
-    (named with_attributes : List (List ℕ × List ℕ)) (kept : KeepsPlaces named with_attributes)
+    (scope : ScopeBindings) (in_force : scope ≡ scope_with p p.attributes)
+    (named with_attributes : NameTable) (kept : KeepsPlaces named with_attributes)
     (label : Label) (attrs : List Attr) (it : IsLabelOf named (element_name scope name) label) (all : AreAttributesOf with_attributes (attributes_in scope lines) attrs)
     (spaces : spaces_fault declared ≡ None) (room : not (nat_lt (length p.opened) (most_open limits)) ≡ false)
     (bound : true ≡ is_bound_prefix scope name) (all_are : true ≡ all_bound scope lines)
     (distinct : IsDistinct with_attributes) where
-  abbrev scope_here : List (List (List ℕ × List ℕ))
+  abbrev scope_here : ScopeBindings
   scope_here = scope_with p p.attributes
 
   bound_here : not (is_bound_prefix scope_here name && all_bound scope_here (ordinary p.attributes)) ≡ false
   bound_here =
       ap₂ (λ (x y : Bool). not (x && y))
-      (ap (λ (s : List (List (List ℕ × List ℕ))). is_bound_prefix s name) (sym in_force) ∙ sym bound)
+      (ap (λ (s : ScopeBindings). is_bound_prefix s name) (sym in_force) ∙ sym bound)
       (ap₂ all_bound (sym in_force) (sym lines_are) ∙ sym all_are)
 
   attributes_here : attributes_at with_attributes attrs ≡ attributes_in scope_here (ordinary p.attributes)
@@ -96,7 +97,7 @@ module _ (limits : Limits) (p : Place) (name : List ℕ) (lines : List Written) 
   event_is =
       let stays = label_stays named with_attributes kept (element_name scope name) label it in
       ap₂ (λ (n : Name) (rest : List Attribute). tree.starts (record { name = n; attributes = rest; spaces = declared }))
-      (stays.is ∙ ap (λ (s : List (List (List ℕ × List ℕ))). element_name s name) in_force) attributes_here
+      (stays.is ∙ ap (λ (s : ScopeBindings). element_name s name) in_force) attributes_here
       ∙ ap (λ (s : List Space). tree.starts (record { name = element_name scope_here name; attributes = attributes_in scope_here (ordinary p.attributes); spaces = s })) declared_are
 
   pub label_known : IsNumbered with_attributes label

@@ -2,20 +2,21 @@
 use Rattle.std.proofs.Common.{◌≡◌, ℕ, suc, ◌+◌, ◌≤◌, Bool, true, false, not, cond, ◌&&◌, ◌||◌, List, [], ◌∷◌, ◌++◌, Option, Some, None, Result, Ok, Err, IfOk, refl, ap, ap₂, sym, ◌∙◌, subst, arith, append-nil}
 use Rattle.std.proofs.lemmas.Bool.{false≢true}
 use Rattle.sx_esis.specs.Lines.{Line}
-use Rattle.sx_tree.specs.Named.{Begun, named, IsKnown}
-use Rattle.sx_tree.specs.Tree.{Happening}
+use Rattle.sx_named.specs.Named.{ElementStart, named, IsKnown}
+use Rattle.sx_tree.specs.Tree.{TreeEvent}
 use Rattle.sx_tree.specs.declared.events.Event.{Event}
 use Rattle.sx_events.specs.Course.{Lined, run_in, run_of, then_here}
 use Rattle.sx_events.specs.Place.{Place, fault_of, is_root_closed, is_of_element, needs_root, may_follow_attributes}
 use Rattle.sx_events.specs.Pending.{held, held_in, IsKnownIn, AreKnown, one_of}
 use Rattle.sx_events.specs.Standing.{Holds, AreWaiting, Knows, Flushed, TakesHere, Takes, fault_here, place_fault, is_run, count}
-use Rattle.sx_events.specs.declared.faults.Which.{Which}
-use Rattle.sx_events.specs.declared.faults.Which.TheVariants as which
-use Rattle.sx_events.specs.declared.limits.Limits.{Limits}
+use Rattle.sx_limits.specs.declared.faults.Which.{Which}
+use Rattle.sx_limits.specs.declared.faults.Which.TheVariants as which
+use Rattle.sx_limits.specs.declared.limits.Limits.{Limits}
 use Rattle.sx_events.specs.declared.pending.Pending.{Pending}
 use Rattle.sx_events.specs.declared.pending.Waiting.{Waiting}
 use Rattle.sx_events.specs.declared.run.Run.{Run}
 use Rattle.sx_events.specs.declared.standing.Standing.{Standing}
+use Rattle.sx_names.specs.Numbering.{NameTable}
 
 -- All but the run of text is what is known at this place.
 pub record KnowsRest (s : Standing) (p : Place) : Type 0 where
@@ -42,7 +43,7 @@ knows_flushed old new w q flushed rest text line =
       text_line = flushed.line ∙ sym line;
     })
 
-module _ (names : List (List ℕ × List ℕ)) (old mid new : Standing) (after : Pending) (p : Place) (knows : Knows old p) (same : mid.run ≡ old.run) (flushed : Flushed mid new after.text) where
+module _ (names : NameTable) (old mid new : Standing) (after : Pending) (p : Place) (knows : Knows old p) (same : mid.run ≡ old.run) (flushed : Flushed mid new after.text) where
   run_waits : (held_in names after.text ≡ run_of p) × IsKnownIn names after.text
   run_waits =
       let waits = flushed.waits names in (
@@ -58,17 +59,17 @@ module _ (names : List (List ℕ × List ℕ)) (old mid new : Standing) (after :
   )
 
   -- and behind it this event
-  pub put_waits : (e : Event) (number : ℕ) (h : Happening Begun) → after.event ≡ Some (record { event = e; line = number }) → number ≡ suc p.lines → named names e ≡ h → IsKnown names e →
+  pub put_waits : (e : Event) (number : ℕ) (h : TreeEvent ElementStart) → after.event ≡ Some (record { event = e; line = number }) → number ≡ suc p.lines → named names e ≡ h → IsKnown names e →
       (held names after ≡ then_here p h) × AreKnown names after
   put_waits e number h is line what known = (
     ap₂ (λ (x : List Lined) (o : Option Waiting). x ++ held_in names o) run_waits.0 is
-        ∙ ap₂ (λ (g : Happening Begun) (n : ℕ). run_of p ++ record { what = g; line = n } ∷ []) what line,
+        ∙ ap₂ (λ (g : TreeEvent ElementStart) (n : ℕ). run_of p ++ record { what = g; line = n } ∷ []) what line,
     record { text = run_waits.1; event = subst (IsKnownIn names) (sym is) known },
   )
 
 -- ---- how much waits
 
-one_run : (w : Option Waiting) (names : List (List ℕ × List ℕ)) (text : List ℕ) (line : ℕ) → held_in names w ≡ run_in text line → one_of w ≡ is_run text
+one_run : (w : Option Waiting) (names : NameTable) (text : List ℕ) (line : ℕ) → held_in names w ≡ run_in text line → one_of w ≡ is_run text
 one_run None names [] line h = refl
 one_run None names (b ∷ bs) line h = absurd (cc)
 one_run (Some w) names [] line h = absurd (cc)
@@ -126,7 +127,7 @@ pub no_fault : (v : Bool) (w : Which) → v ≡ false → cond v (Some w) None �
 no_fault true w h = absurd (false≢true (sym h))
 no_fault false w h = refl
 
-module _ (limits : Limits) (line : Line) (number : ℕ) (names : List (List ℕ × List ℕ)) (old new : Standing) (before after : Pending)
+module _ (limits : Limits) (line : Line) (number : ℕ) (names : NameTable) (old new : Standing) (before after : Pending)
     (may : (p : Place) → Knows old p → place_fault p line ≡ None) where
   -- a line that may stand there was taken
   pub takes_it : (fault : Option Which) → TakesHere limits line number names old new before after fault → Takes limits line number names old new before after fault

@@ -6,18 +6,19 @@ use Rattle.sx_esis.specs.Lines.{Line, starts, ends, has, lacks, says, instructs,
 use Rattle.sx_esis.specs.declared.faults.LineWhich.{LineWhich}
 use Rattle.sx_esis.specs.declared.faults.LineWhich.TheVariants as in_line
 use Rattle.sx_tree.specs.Tree as tree
-use Rattle.sx_tree.specs.Tree.{Happening}
-use Rattle.sx_tree.specs.Named.{Begun}
-use Rattle.sx_events.specs.declared.limits.Limits.{Limits}
-use Rattle.sx_events.specs.declared.faults.Which.{Which}
-use Rattle.sx_events.specs.declared.faults.Which.TheVariants as which
-use Rattle.sx_events.specs.declared.faults.DocFault.{DocFault}
+use Rattle.sx_tree.specs.Tree.{TreeEvent}
+use Rattle.sx_named.specs.Named.{ElementStart}
+use Rattle.sx_limits.specs.declared.limits.Limits.{Limits}
+use Rattle.sx_limits.specs.declared.faults.Which.{Which}
+use Rattle.sx_limits.specs.declared.faults.Which.TheVariants as which
+use Rattle.sx_limits.specs.declared.faults.DocFault.{DocFault}
 use Rattle.sx_events.specs.Place.{Place, Written, beginning, spaces_of, ordinary, scope_with, element_name, attributes_in, fault_of, end_fault}
+use Rattle.sx_names.specs.Scope.{ScopeBindings}
 
 -- What happens, and the line that it stands on, counted from 1: of a run of text its last text line, of the close the
 -- number of lines.
 pub record Lined : Type 0 where
-  pub what : Happening Begun
+  pub what : TreeEvent ElementStart
   pub line : ℕ
 
 -- the run of text that may go on, as an event
@@ -29,17 +30,17 @@ abbrev pub run_of : Place → List Lined
 run_of p = run_in p.text p.text_line
 
 -- behind the run of text this happens on the next line
-abbrev pub then_here : Place → Happening Begun → List Lined
+abbrev pub then_here : Place → TreeEvent ElementStart → List Lined
 then_here p h = run_of p ++ record { what = h; line = suc p.lines } ∷ []
 
 -- the start of an element of this name
-abbrev pub begun : Place → List ℕ → Begun
+abbrev pub begun : Place → List ℕ → ElementStart
 begun p name =
     let scope = scope_with p p.attributes in
     record { name = element_name scope name; attributes = attributes_in scope (ordinary p.attributes); spaces = spaces_of p.attributes }
 
 -- a processing instruction: its target, and its content without the white space that begins it
-abbrev pub instruction : List ℕ → Happening Begun
+abbrev pub instruction : List ℕ → TreeEvent ElementStart
 instruction s = tree.instructs (before_space s) (without_leading_space (from_space s))
 
 -- the events that the next line makes: the run of text before it, if it is no text and not skipped, and its own
@@ -54,7 +55,7 @@ events_at p skips = []
 events_at p conforms = run_of p
 
 -- one line on, where these elements are open and declare this, these attributes wait, and no text does
-abbrev pub onward : Place → List (List ℕ) → List (List (List ℕ × List ℕ)) → List Written → Bool → Place
+abbrev pub onward : Place → List (List ℕ) → ScopeBindings → List Written → Bool → Place
 onward p opened scope attributes is_loose = record {
   lines = suc p.lines;
   opened = opened;
@@ -213,7 +214,7 @@ events_of limits b ended =
     c.events ++ last_events c.place (is_some (break_of limits b ended)) ended
 
 -- what happens, without the lines
-abbrev pub whats : List Lined → List (Happening Begun)
+abbrev pub whats : List Lined → List (TreeEvent ElementStart)
 whats [] = []
 whats (l ∷ ls) = l.what ∷ whats ls
 

@@ -1,14 +1,14 @@
 -- What the definitions come to.
 use Rattle.std.specs.Prelude.{◌≡◌, ℕ, Bool, false, List, [], ◌∷◌, ◌++◌, Some}
 use Rattle.sx_tree.specs.Events.{MayFollow}
-use Rattle.sx_tree.specs.Named.{Begun}
-use Rattle.sx_tree.specs.Tree.{Happening, Document, tree_of}
+use Rattle.sx_named.specs.Named.{ElementStart}
+use Rattle.sx_tree.specs.Tree.{TreeEvent, Document, tree_of}
 use Rattle.sx_events.specs.Course.{Lined, whats, events_of, break_of}
-use Rattle.sx_events.specs.declared.faults.DocFault.{DocFault}
-use Rattle.sx_events.specs.declared.limits.Limits.{Limits}
+use Rattle.sx_limits.specs.declared.faults.DocFault.{DocFault}
+use Rattle.sx_limits.specs.declared.limits.Limits.{Limits}
 
 -- each of these may happen behind those before it
-abbrev pub AllFollow : List (Happening Begun) → List (Happening Begun) → Type 0
+abbrev pub AllFollow : List (TreeEvent ElementStart) → List (TreeEvent ElementStart) → Type 0
 AllFollow p [] = Unit {0}
 AllFollow p (h ∷ hs) = MayFollow p h × AllFollow (p ++ h ∷ []) hs
 
@@ -24,5 +24,5 @@ pub record StaysBroken (limits : Limits) (b d : List ℕ) (ended : Bool) (fault 
   pub events : events_of limits (b ++ d) ended ≡ events_of limits b false
 
 -- the tree of the events of bytes
-abbrev pub tree : Limits → List ℕ → Bool → Document Begun
+abbrev pub tree : Limits → List ℕ → Bool → Document ElementStart
 tree limits b ended = tree_of (whats (events_of limits b ended))

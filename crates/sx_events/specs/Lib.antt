@@ -1,5 +1,3 @@
-pub mod Faults
-pub mod Limits
 pub mod Place
 pub mod Course
 pub mod Pending

@@ -3,12 +3,12 @@ use Rattle.std.specs.Prelude.{ℕ, Bool, true, false, not, ◌&&◌, ◌||◌, n
 use Rattle.std.specs.Option.{option_map_or}
 use Rattle.sx_chars.specs.Names.{prefix_of, local_of}
 use Rattle.sx_esis.specs.Lines.{Line, starts, ends, has, lacks, says, instructs, skips, conforms}
-use Rattle.sx_names.specs.Scope.{bound}
-use Rattle.sx_tree.specs.Named.{Name, is_same_name, Attribute}
+use Rattle.sx_names.specs.Scope.{Declarations, ScopeBindings, bound}
+use Rattle.sx_named.specs.Named.{Name, is_same_name, Attribute}
 use Rattle.sx_tree.specs.declared.events.Space.{Space}
-use Rattle.sx_events.specs.declared.limits.Limits.{Limits}
-use Rattle.sx_events.specs.declared.faults.Which.{Which}
-use Rattle.sx_events.specs.declared.faults.Which.TheVariants as which
+use Rattle.sx_limits.specs.declared.limits.Limits.{Limits}
+use Rattle.sx_limits.specs.declared.faults.Which.{Which}
+use Rattle.sx_limits.specs.declared.faults.Which.TheVariants as which
 
 -- an attribute line: the name as it is written, and the value
 pub record Written : Type 0 where
@@ -24,7 +24,7 @@ written name value = record { name = name; value = value }
 pub record Place : Type 0 where
   pub lines : ℕ
   pub opened : List (List ℕ)
-  pub scope : List (List (List ℕ × List ℕ))
+  pub scope : ScopeBindings
   pub has_root : Bool
   pub conformed : Bool
   pub attributes : List Written
@@ -88,15 +88,15 @@ has_bad [] = false
 has_bad (s ∷ ss) = is_bad s || has_bad ss
 
 -- the declarations of one element, the last first
-abbrev pub declared_behind : List (List ℕ × List ℕ) → List Space → List (List ℕ × List ℕ)
+abbrev pub declared_behind : Declarations → List Space → Declarations
 declared_behind before [] = before
 declared_behind before (s ∷ ss) = declared_behind ((s.prefix, s.uri) ∷ before) ss
 
 -- what the elements declare that are open behind the start of one with these attributes
-abbrev pub scope_with : Place → List Written → List (List (List ℕ × List ℕ))
+abbrev pub scope_with : Place → List Written → ScopeBindings
 scope_with p attributes = declared_behind [] (spaces_of attributes) ∷ p.scope
 
-module _ (scope : List (List (List ℕ × List ℕ))) where
+module _ (scope : ScopeBindings) where
   -- the prefix of a name is bound; an attribute without a prefix needs no binding
   abbrev pub is_bound_prefix : List ℕ → Bool
   is_bound_prefix name = not (is_none (bound scope (prefix_of name)))

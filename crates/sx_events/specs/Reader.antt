@@ -1,9 +1,9 @@
 -- What a reader of events stands for, and what it gives.
 use Rattle.std.specs.Prelude.{◌≡◌, ℕ, suc, ◌+◌, ◌-◌, ◌^◌, ◌≤◌, min, Bool, true, not, ◌&&◌, List, ◌++◌, length, slice_get, Option, Some, None, Result, Ok, Err}
 use Rattle.sx_esis.specs.Lines.{Line}
-use Rattle.sx_esis.specs.Stands as reader
+use Rattle.sx_esis.specs.LineReader as reader
 use Rattle.sx_esis.specs.declared.reader.LineReader.{LineReader}
-use Rattle.sx_tree.specs.Named.{named, IsKnown}
+use Rattle.sx_named.specs.Named.{named, IsKnown}
 use Rattle.sx_tree.specs.declared.events.Event.{Event}
 use Rattle.sx_events.specs.Course.{course, course_of, reading, looked_at, is_beyond, break_of, events_of, run_in, run_of, whats}
 use Rattle.sx_events.specs.Place.{beginning}
@@ -12,48 +12,49 @@ use Rattle.sx_events.specs.Standing.{IsSmall, Knows, count}
 use Rattle.sx_events.specs.declared.event_reader.Ending.{Ending}
 use Rattle.sx_events.specs.declared.event_reader.Ending.TheVariants as ending
 use Rattle.sx_events.specs.declared.event_reader.EventReader.{EventReader}
-use Rattle.sx_events.specs.declared.faults.DocFault.{DocFault}
-use Rattle.sx_events.specs.declared.limits.Limits.{Limits}
+use Rattle.sx_limits.specs.declared.faults.DocFault.{DocFault}
+use Rattle.sx_limits.specs.declared.limits.Limits.{Limits}
 use Rattle.sx_events.specs.declared.pending.Pending.{Pending}
 use Rattle.sx_events.specs.declared.run.Run.{Run}
 use Rattle.sx_events.specs.declared.standing.Standing.{Standing}
 use Rattle.sx_events.specs.declared.taking.Taken.{Taken}
 use Rattle.sx_events.specs.declared.taking.Taken.TheVariants as taken
+use Rattle.sx_names.specs.Numbering.{NameTable}
 
 -- the reader of lines was fed what is looked at of the bytes, and gave so many lines
-abbrev pub Reads : LineReader → Limits → List ℕ → Bool → ℕ → Type 0
-Reads r limits b ended given = reader.Stands r limits.line (looked_at limits b) (ended && not (is_beyond limits b)) given
+abbrev pub TakesLines : LineReader → Limits → List ℕ → Bool → ℕ → Type 0
+TakesLines r limits b ended given = reader.LinesStand r limits.line (looked_at limits b) (ended && not (is_beyond limits b)) given
 
 -- The first lines of the bytes were taken and are not at fault; of their events so many were given, the last of them on
 -- this line, and the others wait.
-pub record Along (r : LineReader) (s : Standing) (p : Pending) (limits : Limits) (names : List (List ℕ × List ℕ)) (b : List ℕ) (ended : Bool) (given line : ℕ) : Type 0 where
+pub record Along (r : LineReader) (s : Standing) (p : Pending) (limits : Limits) (names : NameTable) (b : List ℕ) (ended : Bool) (given line : ℕ) : Type 0 where
   pub small : IsSmall limits
   pub front : List Line
   pub more : List Line
   pub lines : (reading limits b ended).lines ≡ front ++ more
-  pub reads : Reads r limits b ended (length front)
+  pub reads : TakesLines r limits b ended (length front)
   pub sound : (course limits beginning front).fault ≡ None
   pub knows : Knows s (course limits beginning front).place
   pub pends : Pends p names (course limits beginning front).events given line
 
 -- All lines of the bytes were taken, and none is at fault.
-pub record TookAll (r : LineReader) (s : Standing) (p : Pending) (limits : Limits) (names : List (List ℕ × List ℕ)) (b : List ℕ) (ended : Bool) (given line : ℕ) : Type 0 where
+pub record TookAll (r : LineReader) (s : Standing) (p : Pending) (limits : Limits) (names : NameTable) (b : List ℕ) (ended : Bool) (given line : ℕ) : Type 0 where
   pub small : IsSmall limits
   pub whole : (reading limits b ended).fault ≡ None
-  pub reads : Reads r limits b ended (length (reading limits b ended).lines)
+  pub reads : TakesLines r limits b ended (length (reading limits b ended).lines)
   pub sound : (course_of limits b ended).fault ≡ None
   pub knows : Knows s (course_of limits b ended).place
   pub pends : Pends p names (course_of limits b ended).events given line
 
 -- A line is at fault: the events in front of it were given or wait, but for the run of text that may have gone on.
-pub record Broke (s : Standing) (p : Pending) (limits : Limits) (names : List (List ℕ × List ℕ)) (b : List ℕ) (ended : Bool) (given line : ℕ) (fault : DocFault) : Type 0 where
+pub record Broke (s : Standing) (p : Pending) (limits : Limits) (names : NameTable) (b : List ℕ) (ended : Bool) (given line : ℕ) (fault : DocFault) : Type 0 where
   pub cause : break_of limits b ended ≡ Some fault
   pub run : run_in s.run.text s.run.line ≡ run_of (course_of limits b ended).place
   pub idle : IsIdle p
   pub pends : Pends p names (course_of limits b ended).events given line
 
 -- The input has ended well, with this line: all events but the run of text and the close were given.
-pub record EndsWell (s : Standing) (p : Pending) (limits : Limits) (names : List (List ℕ × List ℕ)) (b : List ℕ) (ended : Bool) (given line last : ℕ) : Type 0 where
+pub record EndsWell (s : Standing) (p : Pending) (limits : Limits) (names : NameTable) (b : List ℕ) (ended : Bool) (given line last : ℕ) : Type 0 where
   pub told : ended ≡ true
   pub whole : break_of limits b ended ≡ None
   pub number : last ≡ (course_of limits b ended).place.lines
@@ -61,7 +62,7 @@ pub record EndsWell (s : Standing) (p : Pending) (limits : Limits) (names : List
   pub idle : IsIdle p
   pub pends : Pends p names (course_of limits b ended).events given line
 
-abbrev pub AfterTaking : LineReader → Standing → Pending → Limits → List (List ℕ × List ℕ) → List ℕ → Bool → ℕ → ℕ → Taken → Type 0
+abbrev pub AfterTaking : LineReader → Standing → Pending → Limits → NameTable → List ℕ → Bool → ℕ → ℕ → Taken → Type 0
 AfterTaking r s p limits names b ended given line taken.Line = Along r s p limits names b ended given line
 AfterTaking r s p limits names b ended given line taken.All = TookAll r s p limits names b ended given line
 AfterTaking r s p limits names b ended given line (taken.Broken fault) = Broke s p limits names b ended given line fault
@@ -79,29 +80,29 @@ pub record Counted (r : EventReader) (limits : Limits) (b : List ℕ) (ended : B
   pub told : r.ended ≡ ended
 
 -- It is not known yet how the bytes end.
-pub record Going (r : EventReader) (limits : Limits) (names : List (List ℕ × List ℕ)) (b : List ℕ) (ended : Bool) (given : ℕ) : Type 0 where
+pub record Going (r : EventReader) (limits : Limits) (names : NameTable) (b : List ℕ) (ended : Bool) (given : ℕ) : Type 0 where
   pub counted : Counted r limits b ended
   pub along : Along r.lines r.standing r.pending limits names b ended given r.line
 
 -- The bytes are broken off with this fault.
-pub record BrokenOff (r : EventReader) (limits : Limits) (names : List (List ℕ × List ℕ)) (b : List ℕ) (ended : Bool) (given : ℕ) (fault : DocFault) : Type 0 where
+pub record BrokenOff (r : EventReader) (limits : Limits) (names : NameTable) (b : List ℕ) (ended : Bool) (given : ℕ) (fault : DocFault) : Type 0 where
   pub broken : break_of limits b ended ≡ Some fault
   pub pends : Pends r.pending names (events_of limits b ended) given r.line
 
 -- The bytes have ended well.
-pub record Whole (r : EventReader) (limits : Limits) (names : List (List ℕ × List ℕ)) (b : List ℕ) (ended : Bool) (given : ℕ) : Type 0 where
+pub record Whole (r : EventReader) (limits : Limits) (names : NameTable) (b : List ℕ) (ended : Bool) (given : ℕ) : Type 0 where
   pub told : ended ≡ true
   pub whole : break_of limits b ended ≡ None
   pub pends : Pends r.pending names (events_of limits b ended) given r.line
 
-abbrev pub StandsAt : Option Ending → EventReader → Limits → List (List ℕ × List ℕ) → List ℕ → Bool → ℕ → Type 0
+abbrev pub StandsAt : Option Ending → EventReader → Limits → NameTable → List ℕ → Bool → ℕ → Type 0
 StandsAt None r limits names b ended given = Going r limits names b ended given
 StandsAt (Some (ending.Broken fault)) r limits names b ended given = BrokenOff r limits names b ended given fault
 StandsAt (Some ending.Whole) r limits names b ended given = Whole r limits names b ended given
 
 -- The reader was fed these bytes, was or was not told of the end, and gave so many of their events, by this table of names.
-abbrev pub Stands : EventReader → Limits → List (List ℕ × List ℕ) → List ℕ → Bool → ℕ → Type 0
-Stands r limits names b ended given = StandsAt r.ending r limits names b ended given
+abbrev pub EventsStand : EventReader → Limits → NameTable → List ℕ → Bool → ℕ → Type 0
+EventsStand r limits names b ended given = StandsAt r.ending r limits names b ended given
 
 -- All events of the bytes were given, and they are not broken off.
 pub record GaveAll (limits : Limits) (b : List ℕ) (ended : Bool) (given : ℕ) : Type 0 where
@@ -109,15 +110,15 @@ pub record GaveAll (limits : Limits) (b : List ℕ) (ended : Bool) (given : ℕ)
   pub whole : break_of limits b ended ≡ None
 
 -- The reader has read on: where nothing waits and it is not known how the bytes end, all was given.
-pub record Rests (r : EventReader) (limits : Limits) (names : List (List ℕ × List ℕ)) (b : List ℕ) (ended : Bool) (given : ℕ) : Type 0 where
-  pub stands : Stands r limits names b ended given
+pub record Rests (r : EventReader) (limits : Limits) (names : NameTable) (b : List ℕ) (ended : Bool) (given : ℕ) : Type 0 where
+  pub stands : EventsStand r limits names b ended given
   pub idle : IsIdle r.pending → r.ending ≡ None → GaveAll limits b ended given
 
 -- The reader gave the event behind those given before, or all events were given, or behind them the bytes are broken off.
-abbrev pub Gives : Limits → List (List ℕ × List ℕ) → List ℕ → Bool → ℕ → EventReader → Option (Result Event DocFault) → Type 0
-Gives limits names b ended given new None = (given ≡ length (events_of limits b ended)) × (break_of limits b ended ≡ None) × Stands new limits names b ended given
-Gives limits names b ended given new (Some (Ok e)) = (slice_get (whats (events_of limits b ended)) given ≡ Some (named names e)) × IsKnown names e × Stands new limits names b ended (suc given)
-Gives limits names b ended given new (Some (Err fault)) = (given ≡ length (events_of limits b ended)) × (break_of limits b ended ≡ Some fault) × Stands new limits names b ended given
+abbrev pub Gives : Limits → NameTable → List ℕ → Bool → ℕ → EventReader → Option (Result Event DocFault) → Type 0
+Gives limits names b ended given new None = (given ≡ length (events_of limits b ended)) × (break_of limits b ended ≡ None) × EventsStand new limits names b ended given
+Gives limits names b ended given new (Some (Ok e)) = (slice_get (whats (events_of limits b ended)) given ≡ Some (named names e)) × IsKnown names e × EventsStand new limits names b ended (suc given)
+Gives limits names b ended given new (Some (Err fault)) = (given ≡ length (events_of limits b ended)) × (break_of limits b ended ≡ Some fault) × EventsStand new limits names b ended given
 
 -- an answer with an event for which something holds
 abbrev pub IfEvent : Option (Result Event DocFault) → (Event → Type 0) → Type 0

@@ -6,13 +6,14 @@ use Rattle.sx_events.specs.Place.{Place, Written, spaces_of, ordinary, is_root_c
 use Rattle.sx_events.specs.Pending.{AreKnown, IsIdle, IsRun, held, count_held}
 use Rattle.sx_events.specs.declared.attributes.Attributes.{Attributes}
 use Rattle.sx_events.specs.declared.elements.Elements.{Elements}
-use Rattle.sx_events.specs.declared.faults.Which.{Which}
-use Rattle.sx_events.specs.declared.faults.Which.TheVariants as which
-use Rattle.sx_events.specs.declared.limits.Limits.{Limits}
+use Rattle.sx_limits.specs.declared.faults.Which.{Which}
+use Rattle.sx_limits.specs.declared.faults.Which.TheVariants as which
+use Rattle.sx_limits.specs.declared.limits.Limits.{Limits}
 use Rattle.sx_events.specs.declared.pending.Pending.{Pending}
 use Rattle.sx_events.specs.declared.pending.Waiting.{Waiting}
 use Rattle.sx_events.specs.declared.run.Run.{Run}
 use Rattle.sx_events.specs.declared.standing.Standing.{Standing}
+use Rattle.sx_names.specs.Numbering.{NameTable}
 
 -- names in one text, the innermost last, and where each begins
 abbrev pub AreNames : List ℕ → List ℕ → List (List ℕ) → Type 0
@@ -71,20 +72,20 @@ abbrev pub count : Run → Pending → ℕ
 count r p = is_run r.text + count_held p
 
 -- The line was taken: its events wait, and the parts keep what is known behind it.
-pub record Took (new : Standing) (names : List (List ℕ × List ℕ)) (after : Pending) (p : Place) (line : Line) : Type 0 where
+pub record Took (new : Standing) (names : NameTable) (after : Pending) (p : Place) (line : Line) : Type 0 where
   pub knows : Knows new (behind p line)
   pub events : held names after ≡ events_at p line
   pub known : AreKnown names after
 
 -- What became of the line with this number: it was taken, or this is at fault with it, and nothing that waits has changed.
-abbrev pub Takes : Limits → Line → ℕ → List (List ℕ × List ℕ) → Standing → Standing → Pending → Pending → Option Which → Type 0
+abbrev pub Takes : Limits → Line → ℕ → NameTable → Standing → Standing → Pending → Pending → Option Which → Type 0
 Takes limits line number names old new before after None =
     (p : Place) → Knows old p → number ≡ suc p.lines → IsIdle before → (fault_of limits p line ≡ None) × Took new names after p line
 Takes limits line number names old new before after (Some w) =
     ((p : Place) → Knows old p → fault_of limits p line ≡ Some w) × (new.run ≡ old.run) × (after ≡ before)
 
 -- the same, where a line of its kind may stand
-abbrev pub TakesHere : Limits → Line → ℕ → List (List ℕ × List ℕ) → Standing → Standing → Pending → Pending → Option Which → Type 0
+abbrev pub TakesHere : Limits → Line → ℕ → NameTable → Standing → Standing → Pending → Pending → Option Which → Type 0
 TakesHere limits line number names old new before after None =
     (p : Place) → Knows old p → place_fault p line ≡ None → number ≡ suc p.lines → IsIdle before → (fault_here limits p line ≡ None) × Took new names after p line
 TakesHere limits line number names old new before after (Some w) =

@@ -1,6 +1,6 @@
 -- The start of an element.
 use Rattle.std.specs.Prelude.{◌≡◌, ℕ, Bool, false, ◌||◌, ◌==◌, List, [], ◌∷◌, Option, Some, None, Result, Ok, Err, if◌then◌else◌}
-use Rattle.sx_tree.specs.Named.{Name, Attribute, named, name_at, attributes_at, IsNumbered, AreNumbered, IsKnown}
+use Rattle.sx_named.specs.Named.{Name, Attribute, named, name_at, attributes_at, IsNumbered, AreNumbered, IsKnown}
 use Rattle.sx_tree.specs.Tree as tree
 use Rattle.sx_tree.specs.declared.events.Attr.{Attr}
 use Rattle.sx_tree.specs.declared.events.Event.{Event}
@@ -10,21 +10,22 @@ use Rattle.sx_events.specs.Course.{begun}
 use Rattle.sx_events.specs.Place.{Place, scope_with, start_fault, declares_twice, has_bad}
 use Rattle.sx_events.specs.Standing.{Holds}
 use Rattle.sx_events.specs.declared.elements.Elements.{Elements}
-use Rattle.sx_events.specs.declared.faults.Which.{Which}
-use Rattle.sx_events.specs.declared.faults.Which.TheVariants as which
-use Rattle.sx_events.specs.declared.limits.Limits.{Limits}
+use Rattle.sx_limits.specs.declared.faults.Which.{Which}
+use Rattle.sx_limits.specs.declared.faults.Which.TheVariants as which
+use Rattle.sx_limits.specs.declared.limits.Limits.{Limits}
+use Rattle.sx_names.specs.Numbering.{NameTable}
 
 -- what is at fault with the declarations of an element
 abbrev pub spaces_fault : List Space → Option Which
 spaces_fault spaces = if declares_twice spaces then Some which.DoubleAttr else if has_bad spaces then Some which.BadAttr else None
 
 -- a label is this name by this table
-pub record IsLabelOf (names : List (List ℕ × List ℕ)) (name : Name) (label : Label) : Type 0 where
+pub record IsLabelOf (names : NameTable) (name : Name) (label : Label) : Type 0 where
   pub is : name_at names label ≡ name
   pub known : IsNumbered names label
 
 -- attributes are these by this table
-pub record AreAttributesOf (names : List (List ℕ × List ℕ)) (attributes : List Attribute) (attrs : List Attr) : Type 0 where
+pub record AreAttributesOf (names : NameTable) (attributes : List Attribute) (attrs : List Attr) : Type 0 where
   pub are : attributes_at names attrs ≡ attributes
   pub known : AreNumbered names attrs
 
@@ -39,7 +40,7 @@ has_double_number [] = false
 has_double_number (a ∷ rest) = has_number rest a.label.number || has_double_number rest
 
 -- the start of an element of this name, or what is at fault with it
-abbrev pub Begins : Limits → Place → List ℕ → List (List ℕ × List ℕ) → Elements → Result Event Which → Type 0
+abbrev pub Begins : Limits → Place → List ℕ → NameTable → Elements → Result Event Which → Type 0
 Begins limits p name names new (Err w) = start_fault limits p name ≡ Some w
 Begins limits p name names new (Ok e) =
     (start_fault limits p name ≡ None) × (named names e ≡ tree.starts (begun p name)) × IsKnown names e

@@ -1,6 +1,7 @@
 // The open elements of a document.
 ghost use Rattle.sx_events.specs.Place.{declared_behind};
 ghost use Rattle.std.specs.Prelude.{◌≡◌, ◌<◌, ◌≤◌, [], ◌∷◌, ℕ, List, Bool, length, min, not, nat_lt, false, IsTrue, IsFalse, OnOk};
+ghost use Rattle.sx_names.specs.Scope.{ScopeBindings};
 
 use arrayvec::ArrayVec;
 use std::alloc::{AllocError, Global};
@@ -106,7 +107,7 @@ impl Elements {
 // Binds what an element declares.
 fn declare(scope: &mut Scope, spaces: &[Space]) -> Result<(), AllocError>
     requires { 0 < length scope.old }
-    ensures declared { OnOk result ((around : List (List (List ℕ × List ℕ))) → scope.old ≡ [] ∷ around → scope.new ≡ declared_behind [] spaces.now ∷ around) }
+    ensures declared { OnOk result ((around : ScopeBindings) → scope.old ≡ [] ∷ around → scope.new ≡ declared_behind [] spaces.now ∷ around) }
     ensures length { length scope.new ≡ length scope.old }
 {
     for space in spaces {

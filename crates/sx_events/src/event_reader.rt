@@ -1,18 +1,17 @@
 // The reader of events: bytes of a document in, its events out.
 ghost use Rattle.std.specs.Prelude.{◌≡◌, ◌^◌, ◌<◌, ◌≤◌, ◌+◌, ◌-◌, [], ◌++◌, List, ℕ, Bool, true, false, min, nat_lt, take, IsTrue, IfOk, OnOk, OnErr, IsErr, None, length};
-ghost use Rattle.sx_names.specs.Numbering.{IsDistinct, KeepsPlaces};
+ghost use Rattle.sx_names.specs.Numbering.{NameTable, IsDistinct, KeepsPlaces};
 ghost use Rattle.sx_events.specs.Course.{is_beyond, line_behind, looked_at, events_of};
-ghost use Rattle.sx_events.specs.Reader.{TookAll, Broke, EndsWell, Counted, Stands, Rests, Gives, IfEvent, left, is_spent};
+ghost use Rattle.sx_events.specs.Reader.{TookAll, Broke, EndsWell, Counted, EventsStand, Rests, Gives, IfEvent, left, is_spent};
 ghost use Rattle.sx_events.specs.Pending.{IsIdle};
 ghost use Rattle.sx_events.specs.Standing.{count};
 
-use crate::faults::{DocFault, Which};
-use crate::limits::Limits;
 use crate::pending::Pending;
 use crate::standing::Standing;
 use crate::taking::{Taken, take_lines};
 use std::alloc::{AllocError, Global};
 use sx_esis::LineReader;
+use sx_limits::{DocFault, Limits, Which};
 use sx_names::Names;
 use sx_tree::Event;
 
@@ -67,7 +66,7 @@ impl EventReader {
     /// A reader that was fed nothing. It never has more than 200 elements open: a greater depth counts as 200.
     pub fn new(alloc: Global, limits: &Limits) -> EventReader
         requires bytes { limits.now.bytes ≤ 2 ^ 61 }
-        ensures stands { (names : List (List ℕ × List ℕ)) → Stands result limits.now names [] false 0 }
+        ensures stands { (names : NameTable) → EventsStand result limits.now names [] false 0 }
         ensures unspent { is_spent result ≡ false }
     {
         EventReader {
@@ -86,8 +85,8 @@ impl EventReader {
     /// Takes the next bytes. Behind the limit of a document, and where the bytes were broken off, they are dropped. After
     /// an `AllocError` the reader stands as before.
     pub fn feed(&mut self, piece: &[u8]) -> Result<(), AllocError>
-        ensures fed { OnOk result ((limits : Limits) (names : List (List ℕ × List ℕ)) (b : List ℕ) (given : ℕ) → Stands self.old limits names b false given → Stands self.new limits names (b ++ piece.now) false given) }
-        ensures err { OnErr result ((limits : Limits) (names : List (List ℕ × List ℕ)) (b : List ℕ) (ended : Bool) (given : ℕ) → Stands self.old limits names b ended given → Stands self.new limits names b ended given) }
+        ensures fed { OnOk result ((limits : Limits) (names : NameTable) (b : List ℕ) (given : ℕ) → EventsStand self.old limits names b false given → EventsStand self.new limits names (b ++ piece.now) false given) }
+        ensures err { OnErr result ((limits : Limits) (names : NameTable) (b : List ℕ) (ended : Bool) (given : ℕ) → EventsStand self.old limits names b ended given → EventsStand self.new limits names b ended given) }
         ensures same { is_spent self.new ≡ is_spent self.old }
         ensures spent { IsTrue (is_spent self.old) → IsErr result }
     {
@@ -106,7 +105,7 @@ impl EventReader {
 
     /// Says that there are no more bytes.
     pub fn finish(&mut self) -> Result<(), AllocError>
-        ensures told { OnOk result ((limits : Limits) (names : List (List ℕ × List ℕ)) (b : List ℕ) (given : ℕ) → Stands self.old limits names b false given → Stands self.new limits names b true given) }
+        ensures told { OnOk result ((limits : Limits) (names : NameTable) (b : List ℕ) (given : ℕ) → EventsStand self.old limits names b false given → EventsStand self.new limits names b true given) }
         ensures err { OnErr result (self.new ≡ self.old) }
         ensures same { is_spent self.new ≡ is_spent self.old }
         ensures spent { IsTrue (is_spent self.old) → IsErr result }
@@ -125,7 +124,7 @@ impl EventReader {
     /// The number of the line of the last event that was given, counted from 1, and 0 before the first: of a run of text
     /// its last text line, of the close the number of lines.
     pub fn line(&self) -> u64
-        ensures { (limits : Limits) (names : List (List ℕ × List ℕ)) (b : List ℕ) (ended : Bool) (given : ℕ) → Stands self.now limits names b ended given → result ≡ line_behind (events_of limits b ended) given }
+        ensures { (limits : Limits) (names : NameTable) (b : List ℕ) (ended : Bool) (given : ℕ) → EventsStand self.now limits names b ended given → result ≡ line_behind (events_of limits b ended) given }
     {
         self.line
     }
@@ -133,7 +132,7 @@ impl EventReader {
     /// The next event of the bytes that were fed. `None` says that there are no more so far, and behind the close that
     /// there are none; `DocFault` where the bytes are broken off, and it stays the answer.
     pub fn next(&mut self, names: &mut Names) -> Result<Option<Result<Event, DocFault>>, AllocError>
-        ensures gives { IfOk result (λ answer. (limits : Limits) (b : List ℕ) (ended : Bool) (given : ℕ) → Stands self.old limits names.old b ended given → Gives limits names.new b ended given self.new answer) }
+        ensures gives { IfOk result (λ answer. (limits : Limits) (b : List ℕ) (ended : Bool) (given : ℕ) → EventsStand self.old limits names.old b ended given → Gives limits names.new b ended given self.new answer) }
         ensures progress { IfOk result (λ answer. IfEvent answer (λ _. left self.new < left self.old)) }
         ensures kept { KeepsPlaces names.old names.new }
         ensures distinct { IsDistinct names.old → IsDistinct names.new }
@@ -162,7 +161,7 @@ impl EventReader {
 
     // Takes lines until an event waits or none can.
     fn read_on(&mut self, names: &mut Names) -> Result<(), AllocError>
-        ensures rests { OnOk result ((limits : Limits) (b : List ℕ) (ended : Bool) (given : ℕ) → Stands self.old limits names.old b ended given → Rests self.new limits names.new b ended given) }
+        ensures rests { OnOk result ((limits : Limits) (b : List ℕ) (ended : Bool) (given : ℕ) → EventsStand self.old limits names.old b ended given → Rests self.new limits names.new b ended given) }
         ensures no_more { OnOk result (¬ IsIdle self.new.pending → left self.new ≤ left self.old) }
         ensures kept { KeepsPlaces names.old names.new }
         ensures distinct { IsDistinct names.old → IsDistinct names.new }
@@ -187,7 +186,7 @@ impl EventReader {
 
     // All lines that have come were taken: decides how the bytes end, where they do.
     fn settle(&mut self)
-        ensures rests { (limits : Limits) (names : List (List ℕ × List ℕ)) (b : List ℕ) (ended : Bool) (given : ℕ) → self.old.ending ≡ None → IsIdle self.old.pending → Counted self.old limits b ended
+        ensures rests { (limits : Limits) (names : NameTable) (b : List ℕ) (ended : Bool) (given : ℕ) → self.old.ending ≡ None → IsIdle self.old.pending → Counted self.old limits b ended
             → TookAll self.old.lines self.old.standing self.old.pending limits names b ended given self.old.line → Rests self.new limits names b ended given }
         ensures no_more { self.old.ending ≡ None → IsIdle self.old.pending → ¬ IsIdle self.new.pending → left self.new ≤ count self.old.standing.run self.old.pending + 1 }
         ensures same { is_spent self.new ≡ is_spent self.old }
@@ -213,7 +212,7 @@ impl EventReader {
 
     // The bytes are broken off: behind the run of text nothing happens.
     fn break_off(&mut self, fault: DocFault)
-        ensures rests { (limits : Limits) (names : List (List ℕ × List ℕ)) (b : List ℕ) (ended : Bool) (given : ℕ) → Broke self.old.standing self.old.pending limits names b ended given self.old.line fault
+        ensures rests { (limits : Limits) (names : NameTable) (b : List ℕ) (ended : Bool) (given : ℕ) → Broke self.old.standing self.old.pending limits names b ended given self.old.line fault
             → Rests self.new limits names b ended given }
         ensures no_more { left self.new ≤ count self.old.standing.run self.old.pending }
         ensures same { is_spent self.new ≡ is_spent self.old }
@@ -224,7 +223,7 @@ impl EventReader {
 
     // The bytes have ended well, with this line.
     fn close(&mut self, line: u64)
-        ensures rests { (limits : Limits) (names : List (List ℕ × List ℕ)) (b : List ℕ) (ended : Bool) (given : ℕ) → EndsWell self.old.standing self.old.pending limits names b ended given self.old.line line
+        ensures rests { (limits : Limits) (names : NameTable) (b : List ℕ) (ended : Bool) (given : ℕ) → EndsWell self.old.standing self.old.pending limits names b ended given self.old.line line
             → Rests self.new limits names b ended given }
         ensures no_more { left self.new ≤ count self.old.standing.run self.old.pending + 1 }
         ensures same { is_spent self.new ≡ is_spent self.old }
@@ -235,7 +234,7 @@ impl EventReader {
 
     // Gives the event that waits longest.
     fn give(&mut self) -> Option<Result<Event, DocFault>>
-        ensures gives { (limits : Limits) (names : List (List ℕ × List ℕ)) (b : List ℕ) (ended : Bool) (given : ℕ) → Rests self.old limits names b ended given → Gives limits names b ended given self.new result }
+        ensures gives { (limits : Limits) (names : NameTable) (b : List ℕ) (ended : Bool) (given : ℕ) → Rests self.old limits names b ended given → Gives limits names b ended given self.new result }
         ensures waits { IfEvent result (λ _. ¬ IsIdle self.old.pending) }
         ensures fewer { IfEvent result (λ _. left self.new < left self.old) }
         ensures same { is_spent self.new ≡ is_spent self.old }

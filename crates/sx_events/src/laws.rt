@@ -3,8 +3,8 @@ ghost use Rattle.std.specs.Prelude.{◌≡◌, ◌≢◌, ◌<◌, ℕ, Bool, tr
 ghost use Rattle.sx_tree.specs.Tree.{has_open};
 ghost use Rattle.sx_events.specs.Course.{break_of, events_of, whats};
 ghost use Rattle.sx_events.specs.Laws.{AllFollow, Grows, StaysBroken, tree};
-ghost use Rattle.sx_events.specs.declared.faults.DocFault.{DocFault};
-ghost use Rattle.sx_events.specs.declared.limits.Limits.{Limits};
+ghost use Rattle.sx_limits.specs.declared.faults.DocFault.{DocFault};
+ghost use Rattle.sx_limits.specs.declared.limits.Limits.{Limits};
 
 /// More bytes only add events, and where bytes are broken off more bytes change nothing.
 pub fn growth()

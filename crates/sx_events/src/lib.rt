@@ -4,22 +4,17 @@
 mod attributes;
 mod elements;
 mod event_reader;
-mod faults;
-mod limits;
 mod pending;
 mod run;
 mod standing;
 mod starting;
 mod taking;
-#[cfg(test)]
-mod tests;
 
 /// Laws over the definitions, each the contract of a function that does nothing.
 pub mod laws;
 
 pub use event_reader::EventReader;
-pub use faults::{DocFault, Which};
-pub use limits::Limits;
+pub use sx_limits::{DocFault, Limits, Which};
 // A contract of another crate can speak of a reader only if the types of its fields are exported.
 #[doc(hidden)]
 pub use attributes::{Attributes, Written};

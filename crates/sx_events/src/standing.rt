@@ -2,24 +2,23 @@
 ghost use Rattle.std.specs.Prelude.{◌≡◌, ◌+◌, ◌≤◌, ℕ, List, IfOk, IfSome, IfNone, Some, false, true};
 ghost use Rattle.sx_esis.specs.Gives.{view_line};
 ghost use Rattle.sx_esis.specs.Lines.{starts, ends, has, lacks, says, instructs, skips, conforms};
-ghost use Rattle.sx_names.specs.Numbering.{IsDistinct, KeepsPlaces};
+ghost use Rattle.sx_names.specs.Numbering.{NameTable, IsDistinct, KeepsPlaces};
 ghost use Rattle.sx_events.specs.declared.pending.Waiting.{Waiting};
 ghost use Rattle.sx_events.specs.declared.pending.Pending.{Pending};
-ghost use Rattle.sx_events.specs.declared.limits.Limits.{Limits};
+ghost use Rattle.sx_limits.specs.declared.limits.Limits.{Limits};
 ghost use Rattle.sx_events.specs.Place.{Place, beginning, end_fault};
 ghost use Rattle.sx_events.specs.Place as place;
 ghost use Rattle.sx_events.specs.Standing.{Knows, Takes, TakesHere, Flushed, place_fault, count};
 
 use crate::attributes::Attributes;
 use crate::elements::Elements;
-use crate::faults::Which;
-use crate::limits::Limits;
 use crate::pending::{Pending, Waiting};
 use crate::run::Run;
 use crate::starting::begin;
 use std::alloc::{AllocError, Global};
 use sx_chars::split_instruction;
 use sx_esis::LineView;
+use sx_limits::{Limits, Which};
 use sx_names::Names;
 use sx_tree::{Chars, Event};
 
@@ -165,7 +164,7 @@ impl Standing {
 
     // An element ends.
     fn end(&mut self, name: &str, number: u64, pending: &mut Pending) -> Option<Which>
-        ensures takes { (limits : Limits) (names : List (List ℕ × List ℕ)) → TakesHere limits (ends name.now) number names self.old self.new pending.old pending.new result }
+        ensures takes { (limits : Limits) (names : NameTable) → TakesHere limits (ends name.now) number names self.old self.new pending.old pending.new result }
         ensures one { count self.new.run pending.new ≤ count self.old.run pending.old + 1 }
     {
         if !self.elements.end(name) {
@@ -183,7 +182,7 @@ impl Standing {
         value: &str,
         pending: &mut Pending,
     ) -> Result<Option<Which>, AllocError>
-        ensures takes { (number : ℕ) (names : List (List ℕ × List ℕ)) → IfOk result (λ fault. TakesHere limits.now (has name.now value.now) number names self.old self.new pending.old pending.new fault) }
+        ensures takes { (number : ℕ) (names : NameTable) → IfOk result (λ fault. TakesHere limits.now (has name.now value.now) number names self.old self.new pending.old pending.new fault) }
         ensures one { count self.new.run pending.new ≤ count self.old.run pending.old + 1 }
     {
         if self.attributes.is_full(limits.attrs) {
@@ -196,7 +195,7 @@ impl Standing {
 
     // An attribute that the element that starts next has not.
     fn lack(&mut self, pending: &mut Pending) -> Option<Which>
-        ensures takes { (limits : Limits) (name : List ℕ) (number : ℕ) (names : List (List ℕ × List ℕ)) → TakesHere limits (lacks name) number names self.old self.new pending.old pending.new result }
+        ensures takes { (limits : Limits) (name : List ℕ) (number : ℕ) (names : NameTable) → TakesHere limits (lacks name) number names self.old self.new pending.old pending.new result }
         ensures one { count self.new.run pending.new ≤ count self.old.run pending.old + 1 }
     {
         self.attributes.is_loose = true;
@@ -206,7 +205,7 @@ impl Standing {
 
     // A text, which goes on the run.
     fn say(&mut self, limits: &Limits, text: &str, number: u64) -> Result<Option<Which>, AllocError>
-        ensures takes { (names : List (List ℕ × List ℕ)) (pending : Pending) → IfOk result (λ fault. TakesHere limits.now (says text.now) number names self.old self.new pending pending fault) }
+        ensures takes { (names : NameTable) (pending : Pending) → IfOk result (λ fault. TakesHere limits.now (says text.now) number names self.old self.new pending pending fault) }
         ensures one { (pending : Pending) → count self.new.run pending ≤ count self.old.run pending + 1 }
     {
         let length = self.run.len() as u64;
@@ -224,7 +223,7 @@ impl Standing {
         number: u64,
         pending: &mut Pending,
     ) -> Result<Option<Which>, AllocError>
-        ensures takes { (limits : Limits) (names : List (List ℕ × List ℕ)) → IfOk result (λ fault. TakesHere limits (instructs text.now) number names self.old self.new pending.old pending.new fault) }
+        ensures takes { (limits : Limits) (names : NameTable) → IfOk result (λ fault. TakesHere limits (instructs text.now) number names self.old self.new pending.old pending.new fault) }
         ensures one { count self.new.run pending.new ≤ count self.old.run pending.old + 1 }
     {
         let (target, content) = split_instruction(text);
@@ -236,7 +235,7 @@ impl Standing {
 
     // The document conformed.
     fn conform(&mut self, pending: &mut Pending) -> Option<Which>
-        ensures takes { (limits : Limits) (number : ℕ) (names : List (List ℕ × List ℕ)) → TakesHere limits conforms number names self.old self.new pending.old pending.new result }
+        ensures takes { (limits : Limits) (number : ℕ) (names : NameTable) → TakesHere limits conforms number names self.old self.new pending.old pending.new result }
         ensures one { count self.new.run pending.new ≤ count self.old.run pending.old + 1 }
     {
         if !self.elements.is_empty() {

@@ -1,7 +1,7 @@
 // The start of an element: what it declares, its name and its attributes.
 ghost use Rattle.std.specs.Prelude.{◌≡◌, ◌≤◌, ◌||◌, ℕ, List, [], Bool, false, true, is_some, length, take, IfOk, IfSome, OnOk};
 ghost use Rattle.sx_names.specs.Numbering.{IsDistinct, KeepsPlaces};
-ghost use Rattle.sx_tree.specs.Named.{Name, IsNumbered, AreNumbered, name_at, attribute_at, attributes_at};
+ghost use Rattle.sx_named.specs.Named.{Name, IsNumbered, AreNumbered, name_at, attribute_at, attributes_at};
 ghost use Rattle.sx_chars.specs.Names.{prefix_of};
 ghost use Rattle.sx_events.specs.Place as place;
 ghost use Rattle.sx_events.specs.Place.{Place};
@@ -10,11 +10,10 @@ ghost use Rattle.sx_events.specs.Starting.{Begins, IsLabelOf, AreAttributesOf, s
 
 use crate::attributes::{Attributes, Written};
 use crate::elements::Elements;
-use crate::faults::Which;
-use crate::limits::Limits;
 use sqlite_items::Items;
 use std::alloc::{AllocError, Global};
 use sx_chars::split_name;
+use sx_limits::{Limits, Which};
 use sx_names::{Names, Scope};
 use sx_tree::{Attr, Attrs, Chars, Event, Label, Space};
 

@@ -1,6 +1,6 @@
 // Taking the lines that have come.
 ghost use Rattle.std.specs.Prelude.{◌≡◌, ◌+◌, ◌≤◌, ◌<◌, List, ℕ, Bool, IfOk};
-ghost use Rattle.sx_esis.specs.Stands.{unread};
+ghost use Rattle.sx_esis.specs.LineReader.{unread};
 ghost use Rattle.sx_names.specs.Numbering.{IsDistinct, KeepsPlaces};
 ghost use Rattle.sx_events.specs.Course.{which_of};
 ghost use Rattle.sx_events.specs.Pending.{IsIdle};
@@ -8,12 +8,11 @@ ghost use Rattle.sx_events.specs.Standing.{count};
 ghost use Rattle.sx_events.specs.Reader.{Along, AfterTaking, IsNoMore};
 ghost use Rattle.sx_events.specs.declared.taking.Taken.TheVariants as taken;
 
-use crate::faults::{DocFault, Which};
-use crate::limits::Limits;
 use crate::pending::Pending;
 use crate::standing::Standing;
 use std::alloc::AllocError;
 use sx_esis::{LineReader, LineView, LineWhich};
+use sx_limits::{DocFault, Limits, Which};
 use sx_names::Names;
 
 /// What was taken.

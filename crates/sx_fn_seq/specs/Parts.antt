@@ -1,6 +1,6 @@
 -- Parts and sizes of sequences (XPath functions and operators 3.1, 14.1 and 14.3), and constructor functions (18.1).
 use Rattle.std.specs.Prelude.{Bool, ◌==◌, nat_le, if◌then◌else◌, List, [], ◌∷◌, length, Option, Result, Ok, Err}
-use Rattle.sx_arguments.specs.Positions.{selects, span_of, at_positions}
+use Rattle.sx_atoms.specs.Positions.{selects, span_of, at_positions}
 use Rattle.sx_atoms.specs.Casting.{cast_of}
 use Rattle.sx_atoms.specs.Numbers.{◌>>=◌}
 use Rattle.sx_atoms.specs.declared.atoms.Atom.{Atom}

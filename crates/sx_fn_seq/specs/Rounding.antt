@@ -1,7 +1,7 @@
 -- Functions on numbers (XPath functions and operators 3.1, 4.4).
 use Rattle.std.specs.Prelude.{List, [], ◌∷◌, Option, Some, None, Result, Ok, ℤ, pos, ◌*ℤ◌, unsigned_abs}
-use Rattle.sx_arguments.specs.Arguments.{number_argument}
-use Rattle.sx_arguments.specs.Positions.{floor_of, ceiling_of, rounded}
+use Rattle.sx_atoms.specs.Arguments.{number_argument}
+use Rattle.sx_atoms.specs.Positions.{floor_of, ceiling_of, rounded}
 use Rattle.sx_atoms.specs.Arithmetic.{dec}
 use Rattle.sx_atoms.specs.Numbers.{◌>>=◌, by_way_of, one}
 use Rattle.sx_atoms.specs.declared.atoms.Atom.{Atom}

@@ -1,7 +1,7 @@
 -- How many arguments functions take, and what they do with nodes (XSLT 3.0, 19.8.9).
 use Rattle.std.specs.Prelude.{ℕ, Bool, true, false, not, ◌&&◌, ◌||◌, ◌==◌, nat_le}
-use Rattle.sx_arguments.specs.Signature.{allows}
-use Rattle.sx_arguments.specs.declared.signature.Signature.{Signature}
+use Rattle.sx_atoms.specs.Signature.{allows}
+use Rattle.sx_atoms.specs.declared.signature.Signature.{Signature}
 use Rattle.sx_atoms.specs.declared.functions.SeqFn.{SeqFn}
 use Rattle.sx_atoms.specs.declared.functions.SeqFn.TheVariants as fn
 use Rattle.sx_atoms.specs.declared.functions.Usage.{Usage}

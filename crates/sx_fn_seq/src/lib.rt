@@ -11,8 +11,6 @@ mod rounding;
 mod seen;
 mod signatures;
 mod sums;
-#[cfg(test)]
-mod tests;
 mod truths;
 
 pub use calls::call_seq;

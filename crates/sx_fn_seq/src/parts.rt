@@ -7,7 +7,7 @@ ghost use Rattle.sx_fn_seq.specs.Parts.{subsequence_of, cast_argument};
 use crate::answers::{answered, copies, one};
 use sqlite_items::Items;
 use std::alloc::{AllocError, Global};
-use sx_arguments::positions;
+use sx_atoms::arguments::positions;
 use sx_atoms::{Atom, AtomType, Atoms, Code, cast};
 
 /// The first item, where there is one.

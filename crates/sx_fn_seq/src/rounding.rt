@@ -6,8 +6,8 @@ ghost use Rattle.sx_fn_seq.specs.Rounding.{decimal_of, number_by, rounding_of};
 use crate::answers::answered;
 use sqlite_items::Items;
 use std::alloc::{AllocError, Global};
-use sx_arguments::{ceiling, floor, number, round};
-use sx_atoms::{Atom, Atoms, Code, Dec};
+use sx_atoms::arguments::number;
+use sx_atoms::{Atom, Atoms, Code, Dec, ceiling, floor, round};
 
 // How many units of a decimal make one.
 const ONE: i128 = 1_000_000_000;

@@ -3,8 +3,7 @@ ghost use Rattle.std.specs.Prelude.{◌≡◌};
 ghost use Rattle.sx_fn_seq.specs.Signatures as spec;
 ghost use Rattle.sx_fn_seq.specs.Signatures.{signature_of};
 
-use sx_arguments::Signature;
-use sx_atoms::{SeqFn, Usage};
+use sx_atoms::{SeqFn, Signature, Usage};
 
 // A signature of at most one argument.
 fn takes(least: u8, most: u8, usage: Usage) -> Signature

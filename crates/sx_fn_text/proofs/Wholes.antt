@@ -7,7 +7,7 @@ use Rattle.std.proofs.lemmas.Str.{encodes-chars, chars-append, encodes-append}
 use Rattle.std.specs.List.{starts_with, find, cons_option, position, position_or_len}
 use Rattle.std.specs.Option.{option_map}
 use Rattle.std.specs.Str.{chars, encode_utf8_all, IsUtf8}
-use Rattle.sx_arguments.specs.Positions.{selects, from, at_positions}
+use Rattle.sx_atoms.specs.Positions.{selects, from, at_positions}
 use Rattle.sx_atoms.specs.declared.atoms.Atom.{Atom}
 use Rattle.sx_atoms.specs.declared.error_codes.Code.{Code}
 use Rattle.sx_atoms.specs.declared.functions.TextFn.TheVariants as fn

@@ -2,8 +2,8 @@
 use Rattle.std.specs.Prelude.{ℕ, Bool, nat_eq, List, [], ◌∷◌, ◌++◌, map, length, slice_get, unwrap_or, Result, Ok, Err, pos}
 use Rattle.std.specs.List.{starts_with, ends_with}
 use Rattle.std.specs.Str.{chars, encode_utf8_all}
-use Rattle.sx_arguments.specs.Arguments.{text_argument}
-use Rattle.sx_arguments.specs.Positions.{selects, span_of, at_positions}
+use Rattle.sx_atoms.specs.Arguments.{text_argument}
+use Rattle.sx_atoms.specs.Positions.{selects, span_of, at_positions}
 use Rattle.sx_atoms.specs.Numbers.{◌>>=◌}
 use Rattle.sx_atoms.specs.Printing.{text_of}
 use Rattle.sx_atoms.specs.declared.atoms.Atom.{Atom}

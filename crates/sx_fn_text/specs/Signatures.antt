@@ -1,6 +1,6 @@
 -- How many arguments the functions on texts take.
 use Rattle.std.specs.Prelude.{ℕ}
-use Rattle.sx_arguments.specs.declared.signature.Signature.{Signature}
+use Rattle.sx_atoms.specs.declared.signature.Signature.{Signature}
 use Rattle.sx_atoms.specs.declared.functions.TextFn.{TextFn}
 use Rattle.sx_atoms.specs.declared.functions.TextFn.TheVariants as fn
 use Rattle.sx_atoms.specs.declared.functions.Usage.TheVariants as usage

@@ -2,7 +2,7 @@
 ghost use Rattle.std.specs.Prelude.{◌≡◌, ◌≤◌, ◌∷◌, [], length, slice_get, Ok, Err, IsTrue, IfOk, MatchResult};
 ghost use Rattle.std.specs.Option.{option_copied};
 ghost use Rattle.std.specs.Str.{chars};
-ghost use Rattle.sx_arguments.specs.Signature.{allows};
+ghost use Rattle.sx_atoms.specs.Signature.{allows};
 ghost use Rattle.sx_atoms.specs.declared.functions.TextFn.TheVariants as fn_of;
 ghost use Rattle.sx_fn_text.specs.Calls as spec;
 ghost use Rattle.sx_fn_text.specs.Calls.{text_call};
@@ -11,7 +11,7 @@ ghost use Rattle.sx_fn_text.specs.Signatures.{signature_of};
 use crate::{characters, pieces, places};
 use sqlite_items::Items;
 use std::alloc::{AllocError, Global};
-use sx_arguments::{positions, text};
+use sx_atoms::arguments::{positions, text};
 use sx_atoms::{Args, Atom, Atoms, Code, Text, TextFn, print};
 
 // What a call answers: atoms or the code of an error.

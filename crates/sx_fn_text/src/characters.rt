@@ -2,12 +2,11 @@
 ghost use Rattle.std.specs.Prelude.{◌≡◌, ◌≤◌, ◌==◌, length, slice_range, slice_get, IfOk, string_bytes};
 ghost use Rattle.std.specs.List.{position};
 ghost use Rattle.std.specs.Str.{chars, encode_utf8_all};
-ghost use Rattle.sx_arguments.specs.Positions.{selects, at_positions};
+ghost use Rattle.sx_atoms.specs.Positions.{selects, at_positions};
 ghost use Rattle.sx_fn_text.specs.Characters as spec;
 
 use std::alloc::{AllocError, Global};
-use sx_arguments::Positions;
-use sx_atoms::Text;
+use sx_atoms::{Positions, Text};
 
 /// How many characters a text has.
 pub fn length(s: &str) -> usize

@@ -7,8 +7,6 @@ pub mod laws;
 mod pieces;
 mod places;
 mod signatures;
-#[cfg(test)]
-mod tests;
 
 pub use calls::call_text;
 pub use signatures::signature_text;

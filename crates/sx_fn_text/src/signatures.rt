@@ -2,8 +2,7 @@
 ghost use Rattle.std.specs.Prelude.{◌≡◌};
 ghost use Rattle.sx_fn_text.specs.Signatures.{signature_of};
 
-use sx_arguments::Signature;
-use sx_atoms::{TextFn, Usage};
+use sx_atoms::{Signature, TextFn, Usage};
 
 /// How many arguments a function on texts takes (XPath functions and operators 3.1, 5 and 2.3), `concat` no more than 16. It
 /// absorbs the nodes of each of them (XSLT 3.0, 19.8.9).

@@ -6,8 +6,6 @@ mod constructs;
 mod copies;
 mod expressions;
 mod sheets;
-#[cfg(test)]
-mod tests;
 mod types;
 
 pub use branches::Branches;

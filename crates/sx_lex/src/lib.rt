@@ -8,8 +8,6 @@ mod literals;
 mod marks;
 mod names;
 mod numbers;
-#[cfg(test)]
-mod tests;
 
 pub use kinds::{LexFault, Token, TokenKind, Tokens};
 pub use lexing::tokens;

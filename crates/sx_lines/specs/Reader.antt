@@ -14,5 +14,5 @@ put_all front events = option_map (λ es. front ++ es) events
 abbrev pub StandsAs : Bool → List Pair → List Built → List Line → Type 0
 StandsAs after_text pairs events ls = (more : List Line) → events_of false [] (ls ++ more) ≡ put_all events (events_of after_text pairs more)
 
-abbrev pub Stands : Reader → List Line → Type 0
-Stands r ls = StandsAs r.after_text r.pairs r.events ls
+abbrev pub ReadsAs : Reader → List Line → Type 0
+ReadsAs r ls = StandsAs r.after_text r.pairs r.events ls

@@ -6,8 +6,6 @@ pub mod laws;
 mod lines;
 mod printing;
 mod reading;
-#[cfg(test)]
-mod tests;
 mod unescaping;
 
 pub use events::{Built, Builts, Pair, Pairs};

@@ -4,8 +4,9 @@ use Rattle.std.proofs.lemmas.Bool.Decides.{nat_tests}
 use Rattle.sx_kinds.specs.declared.sheets.Template.{Template}
 use Rattle.sx_machine.specs.Body.{Body, nil, literal, copies, words, apply, body_of, written_out, consumes, consuming_parts, or_else, if_two, culprit_inside, culprit_of, culprit}
 use Rattle.sx_tree.specs.declared.events.Label.{Label}
-use Rattle.sx_tree.specs.Named.{Begun}
+use Rattle.sx_named.specs.Named.{ElementStart}
 use Rattle.sx_machine.specs.Choice.{otherwise, last_that, matches, built_in, body_or, chosen_for}
+use Rattle.sx_names.specs.Numbering.{NameTable}
 
 abbrev pub IsMotionless : {N : Type 0} → Body N → Type 0
 IsMotionless b = consumes b ≡ false
@@ -80,7 +81,7 @@ good_content line b c =
 
 -- ---- with names written out
 
-module _ (names : List (List ℕ × List ℕ)) where
+module _ (names : NameTable) where
   consumes_written : (b : Body Label) → consumes (written_out names b) ≡ consumes b
   consumes_written nil = refl
   consumes_written (literal line label content rest) = ap₂ (λ (v w : Bool). v || w) (consumes_written content) (consumes_written rest)
@@ -100,11 +101,11 @@ module _ (names : List (List ℕ × List ℕ)) where
   good_written (words s rest) h = good_written rest h
   good_written (apply rest) h = consumes_written rest ∙ h
 
-  good_built_in : (is_copying : Bool) (e : Begun) → IsGood (built_in is_copying e)
+  good_built_in : (is_copying : Bool) (e : ElementStart) → IsGood (built_in is_copying e)
   good_built_in false e = refl
   good_built_in true e = (refl, tt, refl)
 
-  module _ (is_copying : Bool) (e : Begun) where
+  module _ (is_copying : Bool) (e : ElementStart) where
     abbrev IsGoodChoice : Option Template → Type 0
     IsGoodChoice o = IsGood (body_or names (built_in is_copying e) o)
 

@@ -2,8 +2,8 @@
 use Rattle.std.proofs.Common.{◌≡◌, ℕ, zero, suc, Bool, true, false, List, [], ◌++◌, Option, Some, None, refl, ap, sym, ◌∙◌, subst, append-nil, map}
 use Rattle.sx_atoms.specs.declared.error_codes.Code.{Code}
 use Rattle.sx_kinds.specs.declared.sheets.Sheet.{Sheet}
-use Rattle.sx_tree.specs.Named.{Name, Begun}
-use Rattle.sx_tree.specs.Tree.{Document, Forest, Happening, starts, ends, says, instructs, closes, push, has_open}
+use Rattle.sx_named.specs.Named.{Name, ElementStart}
+use Rattle.sx_tree.specs.Tree.{Document, Forest, TreeEvent, starts, ends, says, instructs, closes, push, has_open}
 use Rattle.sx_build.specs.Asked.{Asked}
 use Rattle.sx_build.specs.Build.{Build, error_of}
 use Rattle.sx_machine.specs.declared.rule_table.RuleTable.{RuleTable}
@@ -12,7 +12,7 @@ use Rattle.sx_machine.specs.declared.session.Session.{Session}
 use Rattle.sx_machine.specs.declared.session.State.TheVariants as state
 use Rattle.sx_machine.specs.Body.{Body}
 use Rattle.sx_machine.specs.Choice.{chosen_for}
-use Rattle.sx_machine.specs.Run.{Out, Ending, done, waits, stops, ending_with, gives, applied, is_done, Result, result_of}
+use Rattle.sx_machine.specs.Run.{Output, Ending, done, waits, stops, ending_with, gives, applied, is_done, Result, result_of}
 use Rattle.sx_machine.specs.Plan.{AreRulesOf, Task, tasks, reacts, task_of}
 use Rattle.sx_machine.specs.Writer.{StandsFor}
 use Rattle.sx_machine.specs.Growth.{ClosesWhole, GrownFrom}
@@ -23,12 +23,13 @@ use Rattle.sx_machine.proofs.Bodies.{IsGood}
 use Rattle.sx_machine.proofs.Steps.{GoesOn, pushed, step, closed, reacts_going}
 use Rattle.sx_machine.proofs.Growths.{result_grown, on_push, open_going}
 use Rattle.sx_machine.proofs.Results.{all_good, going_end}
+use Rattle.sx_names.specs.Numbering.{NameTable}
 
 abbrev pub document : {E : Type 0} → Forest E → Bool → Document E
 document content is_open = record { content = content; is_open = is_open }
 
 -- the document of its nodes after what happens in them
-push_is : {E : Type 0} (d : Document E) (h : Happening E) → GoesOn h → push d h ≡ document (pushed d.content h) d.is_open
+push_is : {E : Type 0} (d : Document E) (h : TreeEvent E) → GoesOn h → push d h ≡ document (pushed d.content h) d.is_open
 push_is d (starts e) g = refl
 push_is d ends g = refl
 push_is d (says s) g = refl
@@ -67,22 +68,22 @@ closed_not_going e = cc
 stopped_not_going : (c : Code) → state.Stopped c ≡ state.Going → ⊥
 stopped_not_going c e = cc
 
-module _ (sheet : Sheet) (names : List (List ℕ × List ℕ)) where
+module _ (sheet : Sheet) (names : NameTable) where
   abbrev is_copying : Bool
   is_copying = is_copying_first sheet.modes
 
-  abbrev chosen : Begun → Body Name
+  abbrev chosen : ElementStart → Body Name
   chosen = chosen_for names is_copying sheet.templates
 
   module _ (ready : IsReady sheet names) where
-    good : (e : Begun) → IsGood (chosen e)
+    good : (e : ElementStart) → IsGood (chosen e)
     good e = all_good sheet ready.streamable names 0 e
 
-    meaning_open : (left : ℕ) (d : Document Begun) → d.is_open ≡ true → meaning_on sheet names (suc left) d ≡ applied is_copying chosen left true d.content
+    meaning_open : (left : ℕ) (d : Document ElementStart) → d.is_open ≡ true → meaning_on sheet names (suc left) d ≡ applied is_copying chosen left true d.content
     meaning_open left d o = ap (λ (b : Bool). applied is_copying chosen left b d.content) o
 
     -- the meaning after one happening more
-    meaning_next : (invocations : ℕ) (d : Document Begun) (h : Happening Begun) → d.is_open ≡ true → GoesOn h →
+    meaning_next : (invocations : ℕ) (d : Document ElementStart) (h : TreeEvent ElementStart) → d.is_open ≡ true → GoesOn h →
         meaning_on sheet names invocations (push d h)
         ≡ resume (meaning_on sheet names invocations d) (reacts is_copying chosen (root_job invocations) (tasks chosen (root_job invocations) d.content) h)
     meaning_next zero d h o g = refl
@@ -90,17 +91,17 @@ module _ (sheet : Sheet) (names : List (List ℕ × List ℕ)) where
         ap (meaning_on sheet names (suc left)) (push_is d h g)
         ∙ meaning_open left (document (pushed d.content h) d.is_open) o
         ∙ step is_copying chosen good d.content (root_job (suc left)) h g
-        ∙ ap (λ (x : Out). resume x (reacts is_copying chosen (root_job (suc left)) (tasks chosen (root_job (suc left)) d.content) h)) (sym (meaning_open left d o))
+        ∙ ap (λ (x : Output). resume x (reacts is_copying chosen (root_job (suc left)) (tasks chosen (root_job (suc left)) d.content) h)) (sym (meaning_open left d o))
 
     -- and at the close
-    meaning_closed : (invocations : ℕ) (d : Document Begun) → d.is_open ≡ true → has_open d.content ≡ false →
+    meaning_closed : (invocations : ℕ) (d : Document ElementStart) → d.is_open ≡ true → has_open d.content ≡ false →
         meaning_on sheet names invocations (push d closes) ≡ resume (meaning_on sheet names invocations d) (gives [])
     meaning_closed zero d o h = refl
     meaning_closed (suc left) d o h =
-        closed is_copying chosen good left d.content h ∙ ap (λ (x : Out). resume x (gives [])) (sym (meaning_open left d o))
+        closed is_copying chosen good left d.content h ∙ ap (λ (x : Output). resume x (gives [])) (sym (meaning_open left d o))
 
-  module _ (invocations : ℕ) (old : Session) (d : Document Begun) (given : ℕ) (s : StandsOn sheet names invocations old d given) where
-    abbrev before : Out
+  module _ (invocations : ℕ) (old : Session) (d : Document ElementStart) (given : ℕ) (s : StandsOn sheet names invocations old d given) where
+    abbrev before : Output
     before = meaning_on sheet names invocations d
 
     ends_here : old.state ≡ state.Going → (error_of before.raw ≡ None) × (before.ending ≡ waits)
@@ -118,7 +119,7 @@ module _ (sheet : Sheet) (names : List (List ℕ × List ℕ)) where
         (subst (λ (asked : List Asked). StandsFor old.writer asked s.builds.at_end given) same.0 s.builds.stands)
 
     -- a session that goes on, where these come and it ends so
-    pub stands_next : (new : Session) (h : Happening Begun) (more : List Asked) (g : Ending) → old.state ≡ state.Going → d.is_open ≡ true → GoesOn h →
+    pub stands_next : (new : Session) (h : TreeEvent ElementStart) (more : List Asked) (g : Ending) → old.state ≡ state.Going → d.is_open ≡ true → GoesOn h →
         reacts is_copying chosen old.root (map (task_of names old.rules.list) old.frames) h ≡ out more g →
         new.rules ≡ old.rules → new.is_copying ≡ old.is_copying → new.root ≡ old.root →
         StandsFor new.writer (before.raw ++ more) false given → new.state ≡ state_of (ending_with (error_of (before.raw ++ more)) g) →
@@ -145,9 +146,9 @@ module _ (sheet : Sheet) (names : List (List ℕ × List ℕ)) where
           places_are = subst FindsLast (sym rules) s.places_are;
           copying_is = copying ∙ s.copying_is;
           root_is = root ∙ s.root_is;
-          builds = subst (λ (x : Out). Builds new x.raw (result_of x) given) (sym after) builds;
-          state_is = state_is ∙ ap (λ (x : Out). state_of (result_of x).ending) (sym after);
-          frames_are = λ k. frames k ∙ ap (λ (x : Document Begun). tasks chosen new.root x.content) (sym (push_is d h goes));
+          builds = subst (λ (x : Output). Builds new x.raw (result_of x) given) (sym after) builds;
+          state_is = state_is ∙ ap (λ (x : Output). state_of (result_of x).ending) (sym after);
+          frames_are = λ k. frames k ∙ ap (λ (x : Document ElementStart). tasks chosen new.root x.content) (sym (push_is d h goes));
         }
 
     -- a session that goes on, at the close
@@ -171,15 +172,15 @@ module _ (sheet : Sheet) (names : List (List ℕ × List ℕ)) where
           places_are = subst FindsLast (sym rules) s.places_are;
           copying_is = copying ∙ s.copying_is;
           root_is = root ∙ s.root_is;
-          builds = subst (λ (x : Out). Builds new x.raw (result_of x) given) (sym after) builds;
-          state_is = state_is ∙ ap (λ (found : Option Code). state_of (ending_with found done)) (sym here.0) ∙ ap (λ (x : Out). state_of (result_of x).ending) (sym after);
+          builds = subst (λ (x : Output). Builds new x.raw (result_of x) given) (sym after) builds;
+          state_is = state_is ∙ ap (λ (found : Option Code). state_of (ending_with found done)) (sym here.0) ∙ ap (λ (x : Output). state_of (result_of x).ending) (sym after);
           frames_are = λ k. absurd (closed_not_going (sym state_is ∙ k));
         }
 
     -- a session that has stopped
-    pub stands_stopped : (h : Happening Begun) (c : Code) → old.state ≡ state.Stopped c → d.is_open ≡ true → ClosesWhole d h → StandsOn sheet names invocations old (push d h) given
+    pub stands_stopped : (h : TreeEvent ElementStart) (c : Code) → old.state ≡ state.Stopped c → d.is_open ≡ true → ClosesWhole d h → StandsOn sheet names invocations old (push d h) given
     stands_stopped h c stopped o w =
-        let after : Out = meaning_on sheet names invocations (push d h) in
+        let after : Output = meaning_on sheet names invocations (push d h) in
         let final : (result_of before).ending ≡ stops c = stops_if_stopped (result_of before).ending c (sym s.state_is ∙ stopped) in
         let same : result_of after ≡ result_of before =
         subst (λ (g : Ending). GrownFrom g (result_of before) (result_of after)) final

@@ -3,11 +3,11 @@ use Rattle.std.proofs.Common.{◌≡◌, ◌≢◌, ℕ, zero, suc, ◌-◌, ari
 use Rattle.std.proofs.lemmas.List.{map-append}
 use Rattle.sx_atoms.specs.declared.error_codes.Code.{Code}
 use Rattle.sx_atoms.specs.declared.error_codes.Code.TheVariants as error
-use Rattle.sx_names.specs.Numbering.{KeepsPlaces}
+use Rattle.sx_names.specs.Numbering.{NameTable, KeepsPlaces}
 use Rattle.sx_kinds.specs.declared.sheets.Sheet.{Sheet}
 use Rattle.sx_tree.specs.declared.events.Attr.{Attr}
-use Rattle.sx_tree.specs.Named.{Name, Attribute, Begun, attributes_at}
-use Rattle.sx_tree.specs.Tree.{Document, Forest, Happening, starts, ends, says, instructs, push, push_node, begun}
+use Rattle.sx_named.specs.Named.{Name, Attribute, ElementStart, attributes_at}
+use Rattle.sx_tree.specs.Tree.{Document, Forest, TreeEvent, starts, ends, says, instructs, push, push_node, first_node}
 use Rattle.sx_build.specs.Asked as ask
 use Rattle.sx_build.specs.Asked.{Asked, all_asked_at}
 use Rattle.sx_build.specs.Build.{error_of}
@@ -24,7 +24,7 @@ use Rattle.sx_machine.specs.declared.session.State.TheVariants as state
 use Rattle.sx_machine.specs.declared.writer.Writer.{Writer}
 use Rattle.sx_machine.specs.Body.{Body}
 use Rattle.sx_machine.specs.Choice.{chosen_for, built_in}
-use Rattle.sx_machine.specs.Run.{Out, Ending, done, waits, stops, ending_with, gives, next, too_deep, copied_attributes}
+use Rattle.sx_machine.specs.Run.{Output, Ending, done, waits, stops, ending_with, gives, next, too_deep, copied_attributes}
 use Rattle.sx_machine.specs.Plan.{Plan, Task, tasks, task_of, reacts, entered, first, last_job, ending_of, saying, instructing, plan_of, read_parts, before_of, after_of, task_for, idle, after_rule, after_at}
 use Rattle.sx_machine.specs.Writer.{StandsFor, asked_attributes}
 use Rattle.sx_machine.specs.Meaning.{is_copying_first, meaning_on}
@@ -43,20 +43,20 @@ pub left_is : (n : ℕ) → n ≢ 0 → n ≡ suc (n - 1)
 left_is n h = omega arith
 
 -- what a rule gives before the children
-pub before_read : (names : List (List ℕ × List ℕ)) (before : List Raw) (behind : Option (List Raw)) → before_of (read_parts names before behind) ≡ gives (all_asked_at names before)
+pub before_read : (names : NameTable) (before : List Raw) (behind : Option (List Raw)) → before_of (read_parts names before behind) ≡ gives (all_asked_at names before)
 before_read names before None = refl
 before_read names before (Some b) = refl
 
 -- what a rule gives behind the children is given at once
-after_done : (names : List (List ℕ × List ℕ)) (before : List Raw) (behind : Option (List Raw)) → (after_of (read_parts names before behind)).ending ≡ done
+after_done : (names : NameTable) (before : List Raw) (behind : Option (List Raw)) → (after_of (read_parts names before behind)).ending ≡ done
 after_done names before None = refl
 after_done names before (Some b) = refl
 
-rule_done : (names : List (List ℕ × List ℕ)) (o : Option Rule) → (after_rule names o).ending ≡ done
+rule_done : (names : NameTable) (o : Option Rule) → (after_rule names o).ending ≡ done
 rule_done names None = refl
 rule_done names (Some r) = after_done names r.plan.before r.plan.behind
 
-behind_done : (names : List (List ℕ × List ℕ)) (rules : List Rule) (a : After) → (after_at names rules a).ending ≡ done
+behind_done : (names : NameTable) (rules : List Rule) (a : After) → (after_at names rules a).ending ≡ done
 behind_done names rules after.Nothing = refl
 behind_done names rules (after.Rule place) = rule_done names (slice_get rules place)
 behind_done names rules after.Copy = refl
@@ -65,7 +65,7 @@ behind_done names rules after.Copy = refl
 pub attributes_asked : (left : ℕ) (attributes : List Attribute) → (left ≡ 0 → attributes ≡ []) → copied_attributes left attributes ≡ gives (asked_attributes attributes)
 attributes_asked left [] h = refl
 attributes_asked zero (a ∷ rest) h = absurd (let none = h refl in cc)
-attributes_asked (suc left) (a ∷ rest) h = ap (λ (o : Out). next (gives (ask.has a ∷ [])) o) (attributes_asked (suc left) rest (λ z. absurd (omega (arith, z))))
+attributes_asked (suc left) (a ∷ rest) h = ap (λ (o : Output). next (gives (ask.has a ∷ [])) o) (attributes_asked (suc left) rest (λ z. absurd (omega (arith, z))))
 
 -- the attributes of a copy, where no invocations are left for them
 pub attributes_deep : (attributes : List Attribute) → ¬ (attributes ≡ []) → copied_attributes 0 attributes ≡ too_deep
@@ -73,24 +73,24 @@ attributes_deep [] h = absurd (h refl)
 attributes_deep (a ∷ rest) h = refl
 
 -- attributes with their names written out are none only where there are none
-pub none_named : (names : List (List ℕ × List ℕ)) (attrs : List Attr) → attributes_at names attrs ≡ [] → attrs ≡ []
+pub none_named : (names : NameTable) (attrs : List Attr) → attributes_at names attrs ≡ [] → attrs ≡ []
 none_named names [] e = refl
 none_named names (a ∷ rest) e = absurd (cc)
 
 -- what a copy gives before the children, where all its attributes are given
-pub before_copy : (left : ℕ) (e : Begun) → (left ≡ 0 → e.attributes ≡ []) → before_of (plan_of left (built_in true e)) ≡ gives (ask.starts e.name ∷ asked_attributes e.attributes)
+pub before_copy : (left : ℕ) (e : ElementStart) → (left ≡ 0 → e.attributes ≡ []) → before_of (plan_of left (built_in true e)) ≡ gives (ask.starts e.name ∷ asked_attributes e.attributes)
 before_copy left e h =
-    ap (λ (x : Out). next (gives (ask.starts e.name ∷ [])) x) (next-nil (copied_attributes left e.attributes) ∙ attributes_asked left e.attributes h)
+    ap (λ (x : Output). next (gives (ask.starts e.name ∷ [])) x) (next-nil (copied_attributes left e.attributes) ∙ attributes_asked left e.attributes h)
 
 -- the same, where its first attribute is too deep
-pub before_deep : (left : ℕ) (e : Begun) → left ≡ 0 → ¬ (e.attributes ≡ []) → before_of (plan_of left (built_in true e)) ≡ out (ask.starts e.name ∷ []) (stops error.Sxli0001)
+pub before_deep : (left : ℕ) (e : ElementStart) → left ≡ 0 → ¬ (e.attributes ≡ []) → before_of (plan_of left (built_in true e)) ≡ out (ask.starts e.name ∷ []) (stops error.Sxli0001)
 before_deep left e z h =
-    ap (λ (x : Out). next (gives (ask.starts e.name ∷ [])) x)
+    ap (λ (x : Output). next (gives (ask.starts e.name ∷ [])) x)
     (next-nil (copied_attributes left e.attributes) ∙ ap (λ (n : ℕ). copied_attributes n e.attributes) z ∙ attributes_deep e.attributes h)
 
-module _ (sheet : Sheet) (names : List (List ℕ × List ℕ)) (invocations : ℕ) (old : Session) (d : Document Begun) (given : ℕ)
+module _ (sheet : Sheet) (names : NameTable) (invocations : ℕ) (old : Session) (d : Document ElementStart) (given : ℕ)
     (s : StandsOn sheet names invocations old d given) (going : old.state ≡ state.Going) (o : d.is_open ≡ true) where
-  abbrev chosen : Begun → Body Name
+  abbrev chosen : ElementStart → Body Name
   chosen = chosen_for names (is_copying_first sheet.modes) sheet.templates
 
   abbrev now : List Task
@@ -99,7 +99,7 @@ module _ (sheet : Sheet) (names : List (List ℕ × List ℕ)) (invocations : �
   abbrev so_far : List Asked
   so_far = (meaning_on sheet names invocations d).raw
 
-  abbrev answers : Happening Begun → Out
+  abbrev answers : TreeEvent ElementStart → Output
   answers h = reacts (is_copying_first sheet.modes) chosen old.root now h
 
   -- the tasks on the tree
@@ -118,13 +118,13 @@ module _ (sheet : Sheet) (names : List (List ℕ × List ℕ)) (invocations : �
 
   module _ (new : Session) (rules : new.rules ≡ old.rules) (copying : new.is_copying ≡ old.is_copying) (root : new.root ≡ old.root) where
     -- nothing comes
-    comes_nothing : (h : Happening Begun) → GoesOn h → answers h ≡ waiting → new.writer ≡ old.writer → new.state ≡ state.Going →
+    comes_nothing : (h : TreeEvent ElementStart) → GoesOn h → answers h ≡ waiting → new.writer ≡ old.writer → new.state ≡ state.Going →
         map (task_of names new.rules.list) new.frames ≡ tasks chosen new.root (pushed d.content h) → StandsOn sheet names invocations new (push d h) given
     comes_nothing h g is written still frames =
         stands_next sheet names invocations old d given s new h [] waits going o g is rules copying root (same_asked new written) (still ∙ same_error waits) (λ _. frames)
 
     -- the invocations are too many
-    comes_too_deep : (h : Happening Begun) → GoesOn h → answers h ≡ too_deep → new.writer ≡ old.writer → new.state ≡ state.Stopped error.Sxli0001 →
+    comes_too_deep : (h : TreeEvent ElementStart) → GoesOn h → answers h ≡ too_deep → new.writer ≡ old.writer → new.state ≡ state.Stopped error.Sxli0001 →
         StandsOn sheet names invocations new (push d h) given
     comes_too_deep h g is written stopped =
         stands_next sheet names invocations old d given s new h [] (stops error.Sxli0001) going o g is rules copying root (same_asked new written)
@@ -132,26 +132,26 @@ module _ (sheet : Sheet) (names : List (List ℕ × List ℕ)) (invocations : �
 
     -- ---- the frames
 
-    same_frames : (f : Forest Begun) → tasks chosen old.root f ≡ tasks chosen old.root d.content → new.frames ≡ old.frames → map (task_of names new.rules.list) new.frames ≡ tasks chosen new.root f
+    same_frames : (f : Forest ElementStart) → tasks chosen old.root f ≡ tasks chosen old.root d.content → new.frames ≡ old.frames → map (task_of names new.rules.list) new.frames ≡ tasks chosen new.root f
     same_frames f same frames =
         ap₂ (λ (rs : RuleTable) (fs : List Frame). map (task_of names rs.list) fs) rules frames ∙ these ∙ sym same
         ∙ ap (λ (j : Job). tasks chosen j f) (sym root)
 
-    more_frames : (f : Frame) (e : Begun) → new.frames ≡ old.frames ++ f ∷ [] → task_of names old.rules.list f ≡ entered chosen (last_job old.root now) e →
-        map (task_of names new.rules.list) new.frames ≡ tasks chosen new.root (push_node d.content (begun (starts e)))
+    more_frames : (f : Frame) (e : ElementStart) → new.frames ≡ old.frames ++ f ∷ [] → task_of names old.rules.list f ≡ entered chosen (last_job old.root now) e →
+        map (task_of names new.rules.list) new.frames ≡ tasks chosen new.root (push_node d.content (first_node (starts e)))
     more_frames f e more is =
         ap₂ (λ (rs : RuleTable) (fs : List Frame). map (task_of names rs.list) fs) rules more
         ∙ map-append (task_of names old.rules.list) old.frames (f ∷ [])
         ∙ ap₂ (λ (ts : List Task) (t : Task). ts ++ t ∷ []) these (is ∙ ap (λ (ts : List Task). entered chosen (last_job old.root ts) e) these)
         ∙ sym (tasks_start chosen d.content old.root e)
-        ∙ ap (λ (j : Job). tasks chosen j (push_node d.content (begun (starts e)))) (sym root)
+        ∙ ap (λ (j : Job). tasks chosen j (push_node d.content (first_node (starts e)))) (sym root)
 
     -- ---- a text
 
     pub text_quiet : (t : List ℕ) → last_job old.root now ≡ job.Skip → new.frames ≡ old.frames → new.writer ≡ old.writer → new.state ≡ state.Going →
         StandsOn sheet names invocations new (push d (says t)) given
     text_quiet t j f w k =
-        comes_nothing (says t) tt (ap (λ (i : Job). saying i t) j) w k (same_frames (push_node d.content (begun (says t))) (tasks_text chosen d.content old.root t) f)
+        comes_nothing (says t) tt (ap (λ (i : Job). saying i t) j) w k (same_frames (push_node d.content (first_node (says t))) (tasks_text chosen d.content old.root t) f)
 
     pub text_deep : (t : List ℕ) (left : ℕ) → last_job old.root now ≡ job.Apply left → left ≡ 0 → new.writer ≡ old.writer → new.state ≡ state.Stopped error.Sxli0001 →
         StandsOn sheet names invocations new (push d (says t)) given
@@ -159,8 +159,8 @@ module _ (sheet : Sheet) (names : List (List ℕ × List ℕ)) (invocations : �
 
     -- ---- a processing instruction
 
-    instruction_frames : (t c : List ℕ) → new.frames ≡ old.frames → map (task_of names new.rules.list) new.frames ≡ tasks chosen new.root (push_node d.content (begun (instructs t c)))
-    instruction_frames t c f = same_frames (push_node d.content (begun (instructs t c))) (tasks_instruction chosen d.content old.root t c) f
+    instruction_frames : (t c : List ℕ) → new.frames ≡ old.frames → map (task_of names new.rules.list) new.frames ≡ tasks chosen new.root (push_node d.content (first_node (instructs t c)))
+    instruction_frames t c f = same_frames (push_node d.content (first_node (instructs t c))) (tasks_instruction chosen d.content old.root t c) f
 
     pub instruction_skipped : (t c : List ℕ) → last_job old.root now ≡ job.Skip → new.frames ≡ old.frames → new.writer ≡ old.writer → new.state ≡ state.Going →
         StandsOn sheet names invocations new (push d (instructs t c)) given
@@ -181,20 +181,20 @@ module _ (sheet : Sheet) (names : List (List ℕ × List ℕ)) (invocations : �
 
     -- ---- a start
 
-    abbrev first_of : Begun → Job → Out
+    abbrev first_of : ElementStart → Job → Output
     first_of e i = next (first chosen i e) waiting
 
-    pub start_skipped : (e : Begun) (f : Frame) → last_job old.root now ≡ job.Skip → task_of names old.rules.list f ≡ idle → new.frames ≡ old.frames ++ f ∷ [] → new.writer ≡ old.writer → new.state ≡ state.Going →
+    pub start_skipped : (e : ElementStart) (f : Frame) → last_job old.root now ≡ job.Skip → task_of names old.rules.list f ≡ idle → new.frames ≡ old.frames ++ f ∷ [] → new.writer ≡ old.writer → new.state ≡ state.Going →
         StandsOn sheet names invocations new (push d (starts e)) given
     start_skipped e f j t fs w k =
         comes_nothing (starts e) tt (ap (first_of e) j) w k (more_frames f e fs (t ∙ ap (λ (i : Job). entered chosen i e) (sym j)))
 
-    pub start_deep : (e : Begun) (left : ℕ) → last_job old.root now ≡ job.Apply left → left ≡ 0 → new.writer ≡ old.writer → new.state ≡ state.Stopped error.Sxli0001 →
+    pub start_deep : (e : ElementStart) (left : ℕ) → last_job old.root now ≡ job.Apply left → left ≡ 0 → new.writer ≡ old.writer → new.state ≡ state.Stopped error.Sxli0001 →
         StandsOn sheet names invocations new (push d (starts e)) given
     start_deep e left j z w k = comes_too_deep (starts e) tt (ap (first_of e) (j ∙ ap job.Apply z)) w k
 
     -- the built-in template of text-only copy is chosen
-    pub start_passed : (e : Begun) (f : Frame) (left : ℕ) → last_job old.root now ≡ job.Apply (suc left) → chosen e ≡ built_in false e → task_of names old.rules.list f ≡ task_for left (plan_of left (built_in false e)) →
+    pub start_passed : (e : ElementStart) (f : Frame) (left : ℕ) → last_job old.root now ≡ job.Apply (suc left) → chosen e ≡ built_in false e → task_of names old.rules.list f ≡ task_for left (plan_of left (built_in false e)) →
         new.frames ≡ old.frames ++ f ∷ [] → new.writer ≡ old.writer → new.state ≡ state.Going → StandsOn sheet names invocations new (push d (starts e)) given
     start_passed e f left j chose t fs w k =
         comes_nothing (starts e) tt (ap (first_of e) j ∙ ap (λ (b : Body Name). next (before_of (plan_of left b)) waiting) chose) w k
@@ -212,7 +212,7 @@ module _ (sheet : Sheet) (names : List (List ℕ × List ℕ)) (invocations : �
   -- ---- where something is asked for
 
   -- these come
-  comes : (new : Session) (h : Happening Begun) (more : List Asked) → GoesOn h → answers h ≡ out more waits → Wrote old new more →
+  comes : (new : Session) (h : TreeEvent ElementStart) (more : List Asked) → GoesOn h → answers h ≡ out more waits → Wrote old new more →
       map (task_of names new.rules.list) new.frames ≡ tasks chosen new.root (pushed d.content h) → StandsOn sheet names invocations new (push d h) given
   comes new h more g is w frames =
       let both = w.wrote so_far given (error_here sheet names invocations old d given s going) (asked_here sheet names invocations old d given s going) in
@@ -222,7 +222,7 @@ module _ (sheet : Sheet) (names : List (List ℕ × List ℕ)) (invocations : �
       StandsOn sheet names invocations new (push d (says t)) given
   text_comes new t left j w f =
       comes new (says t) (ask.says t ∷ []) tt (ap (λ (i : Job). saying i t) j) w
-      (same_frames new w.same_rules w.same_copying w.same_root (push_node d.content (begun (says t))) (tasks_text chosen d.content old.root t) f)
+      (same_frames new w.same_rules w.same_copying w.same_root (push_node d.content (first_node (says t))) (tasks_text chosen d.content old.root t) f)
 
   pub instruction_comes : (new : Session) (t c : List ℕ) (left : ℕ) → last_job old.root now ≡ job.Apply (suc left) → old.is_copying ≡ true → Wrote old new (ask.instructs t c ∷ []) → new.frames ≡ old.frames →
       StandsOn sheet names invocations new (push d (instructs t c)) given
@@ -233,24 +233,24 @@ module _ (sheet : Sheet) (names : List (List ℕ × List ℕ)) (invocations : �
       (instruction_frames new w.same_rules w.same_copying w.same_root t c f)
 
   -- an element starts of which a template with this plan is chosen, and all before the children is given
-  pub start_comes : (new : Session) (e : Begun) (f : Frame) (left : ℕ) (p : Plan) (more : List Asked) → last_job old.root now ≡ job.Apply (suc left) → plan_of left (chosen e) ≡ p →
+  pub start_comes : (new : Session) (e : ElementStart) (f : Frame) (left : ℕ) (p : Plan) (more : List Asked) → last_job old.root now ≡ job.Apply (suc left) → plan_of left (chosen e) ≡ p →
       before_of p ≡ gives more → task_of names old.rules.list f ≡ task_for left p → Wrote old new more → new.frames ≡ old.frames ++ f ∷ [] → StandsOn sheet names invocations new (push d (starts e)) given
   start_comes new e f left p more j planned before t w fs =
       comes new (starts e) more tt
       (ap (λ (i : Job). next (first chosen i e) waiting) j ∙ ap (λ (q : Plan). next (before_of q) waiting) planned
-      ∙ ap (λ (x : Out). next x waiting) before ∙ next_done (gives more) refl) w
+      ∙ ap (λ (x : Output). next x waiting) before ∙ next_done (gives more) refl) w
       (more_frames new w.same_rules w.same_copying w.same_root f e fs
       (t ∙ ap (task_for left) (sym planned) ∙ ap (λ (i : Job). entered chosen i e) (sym j)))
 
   -- the same, where an attribute before the children is too deep
-  pub start_stops : (new : Session) (e : Begun) (left : ℕ) (p : Plan) (more : List Asked) → last_job old.root now ≡ job.Apply (suc left) → plan_of left (chosen e) ≡ p →
+  pub start_stops : (new : Session) (e : ElementStart) (left : ℕ) (p : Plan) (more : List Asked) → last_job old.root now ≡ job.Apply (suc left) → plan_of left (chosen e) ≡ p →
       before_of p ≡ out more (stops error.Sxli0001) → new.rules ≡ old.rules → new.is_copying ≡ old.is_copying → new.root ≡ old.root →
       StandsFor new.writer (so_far ++ more) false given → new.state ≡ state_of (ending_with (error_of (so_far ++ more)) (stops error.Sxli0001)) →
       StandsOn sheet names invocations new (push d (starts e)) given
   start_stops new e left p more j planned before rules copying root stands is =
       stands_next sheet names invocations old d given s new (starts e) more (stops error.Sxli0001) going o tt
       (ap (λ (i : Job). next (first chosen i e) waiting) j ∙ ap (λ (q : Plan). next (before_of q) waiting) planned
-      ∙ ap (λ (x : Out). next x waiting) before) rules copying root stands is
+      ∙ ap (λ (x : Output). next x waiting) before) rules copying root stands is
       (λ k. absurd (still_stopped (error_of (so_far ++ more)) (sym is ∙ k)))
     where
       still_stopped : (found : Option Code) → state_of (ending_with found (stops error.Sxli0001)) ≡ state.Going → ⊥
@@ -258,20 +258,20 @@ module _ (sheet : Sheet) (names : List (List ℕ × List ℕ)) (invocations : �
       still_stopped (Some c) e = cc
 
   -- an end, where this is the innermost frame
-  pub end_comes : (new : Session) (names' : List (List ℕ × List ℕ)) (f : Frame) → old.frames ≡ new.frames ++ f ∷ [] → after_at names old.rules.list f.after ≡ after_at names' old.rules.list f.after →
+  pub end_comes : (new : Session) (names' : NameTable) (f : Frame) → old.frames ≡ new.frames ++ f ∷ [] → after_at names old.rules.list f.after ≡ after_at names' old.rules.list f.after →
       Wrote old new (after_at names' old.rules.list f.after).raw → StandsOn sheet names invocations new (push d ends) given
   end_comes new names' f more same w =
       let t : Task = task_of names old.rules.list f in
       let front : List Task = map (task_of names old.rules.list) new.frames in
       let parts : now ≡ front ++ t ∷ [] = ap (map (task_of names old.rules.list)) more ∙ map-append (task_of names old.rules.list) new.frames (f ∷ []) in
       comes new ends (after_at names' old.rules.list f.after).raw tt
-      (ap ending_of parts ∙ ending-snoc front t ∙ ap (λ (x : Out). next x waiting) same
+      (ap ending_of parts ∙ ending-snoc front t ∙ ap (λ (x : Output). next x waiting) same
       ∙ next_done (after_at names' old.rules.list f.after) (behind_done names' old.rules.list f.after)) w
       (ap (λ (rs : RuleTable). map (task_of names rs.list) new.frames) w.same_rules ∙ sym (tasks_end chosen d.content old.root front t (sym these ∙ parts))
       ∙ ap (λ (j : Job). tasks chosen j (pushed d.content ends)) (sym w.same_root))
 
   -- what comes behind the children, by a table that has grown
-  pub after_known : (names' : List (List ℕ × List ℕ)) → KeepsPlaces names names' → (a : After) → after_at names old.rules.list a ≡ after_at names' old.rules.list a
+  pub after_known : (names' : NameTable) → KeepsPlaces names names' → (a : After) → after_at names old.rules.list a ≡ after_at names' old.rules.list a
   after_known names' keeps after.Nothing = refl
   after_known names' keeps (after.Rule place) =
       after_same names names' keeps (slice_get old.rules.list place) (reads_same names names' keeps sheet.templates old.rules.list s.ready.known s.rules_are place)

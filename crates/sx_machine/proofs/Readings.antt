@@ -5,8 +5,9 @@ use Rattle.sx_build.specs.Asked.{Asked, asked_at, all_asked_at}
 use Rattle.sx_build.specs.declared.raw.Raw.{Raw}
 use Rattle.sx_machine.specs.Run.{gives}
 use Rattle.sx_machine.specs.Plan.{still, looking, then_plan, read_raws, read_parts}
+use Rattle.sx_names.specs.Numbering.{NameTable}
 
-module _ (names : List (List ℕ × List ℕ)) where
+module _ (names : NameTable) where
   pub all_asked-append : (a b : List Raw) → all_asked_at names (a ++ b) ≡ all_asked_at names a ++ all_asked_at names b
   all_asked-append [] b = refl
   all_asked-append (r ∷ a) b = ap (λ (l : List Asked). asked_at names r ∷ l) (all_asked-append a b)

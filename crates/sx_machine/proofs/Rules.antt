@@ -6,9 +6,9 @@ use Rattle.std.proofs.lemmas.Bool.Decides.{Decides-and, Decides-like, Decides-eq
 use Rattle.std.proofs.lemmas.Slice.Eq.{bytes_eq-Decides}
 use Rattle.std.proofs.lemmas.List.{take_more}
 use Rattle.std.proofs.lemmas.Option.{slice_get-get_or}
-use Rattle.sx_names.specs.Numbering.{IsDistinct, KeepsPlaces, uri_at, local_at}
+use Rattle.sx_names.specs.Numbering.{NameTable, IsDistinct, KeepsPlaces, uri_at, local_at}
 use Rattle.sx_tree.specs.declared.events.Label.{Label}
-use Rattle.sx_tree.specs.Named.{Name, name_at}
+use Rattle.sx_named.specs.Named.{Name, name_at}
 use Rattle.sx_kinds.specs.declared.constructs.NamePattern.{NamePattern}
 use Rattle.sx_kinds.specs.declared.constructs.Instr.{Instr}
 use Rattle.sx_kinds.specs.declared.constructs.Instr.TheViews.{out-Instr}
@@ -87,18 +87,18 @@ for_last number (t ∷ ts) (r ∷ rs) all =
     (for_last number ts rs all.1)
     (for_if (by_number number t) (is_named number r) t r (ap (is_number number) (sym all.0.named)) all.0)
 
-none_chosen : (names : List (List ℕ × List ℕ)) (b : Body Name) (o : Option Template) → IsRuleFor o None → body_or names b o ≡ b
+none_chosen : (names : NameTable) (b : Body Name) (o : Option Template) → IsRuleFor o None → body_or names b o ≡ b
 none_chosen names b None h = refl
 none_chosen names b (Some t) h = absurd h
 
-some_chosen : (names : List (List ℕ × List ℕ)) (left : ℕ) (b : Body Name) (o : Option Template) (r : Rule) → IsRuleFor o (Some r) → plan_of left (body_or names b o) ≡ read_plan names r.plan
+some_chosen : (names : NameTable) (left : ℕ) (b : Body Name) (o : Option Template) (r : Rule) → IsRuleFor o (Some r) → plan_of left (body_or names b o) ≡ read_plan names r.plan
 some_chosen names left b None r h = absurd h
 some_chosen names left b (Some t) r h = sym (h.planned names left)
 
 -- ---- names in a table that has grown
 
 -- the two texts of a name
-pub name_texts : (names : List (List ℕ × List ℕ)) (n : ℕ) → n < length names → slice_get names n ≡ Some (uri_at names n, local_at names n)
+pub name_texts : (names : NameTable) (n : ℕ) → n < length names → slice_get names n ≡ Some (uri_at names n, local_at names n)
 name_texts names n h =
     let entry : List ℕ × List ℕ = get_or names n ([], []) in
     let is : slice_get names n ≡ Some entry = slice_get-get_or names n ([], []) h in
@@ -115,7 +115,7 @@ name_decides name (Some entry) =
     (λ e. let same : entry ≡ (name.uri, name.local) = cc in (ap (λ (x : List ℕ × List ℕ). x.0) same, ap (λ (x : List ℕ × List ℕ). x.1) same))
     (Decides-and (bytes_eq entry.0 name.uri) (bytes_eq entry.1 name.local) (bytes_eq-Decides entry.0 name.uri) (bytes_eq-Decides entry.1 name.local))
 
-module _ (known names : List (List ℕ × List ℕ)) (keeps : KeepsPlaces known names) where
+module _ (known names : NameTable) (keeps : KeepsPlaces known names) where
   name_same : (label : Label) → label.number < length known → name_at known label ≡ name_at names label
   name_same label h =
       ap (λ (o : Option (List ℕ × List ℕ)). let n : Name = record { prefix = label.prefix; uri = option_map_or (λ name. name.0) o []; local = option_map_or (λ name. name.1) o [] } in n)

@@ -1,16 +1,16 @@
 -- A body is its plan.
 use Rattle.std.proofs.Common.{◌≡◌, ℕ, zero, suc, Bool, true, false, ◌||◌, List, [], ◌∷◌, refl, ap, ap₂, sym, ◌∙◌}
-use Rattle.sx_tree.specs.Named.{Name, Attribute}
+use Rattle.sx_named.specs.Named.{Name, Attribute}
 use Rattle.sx_build.specs.Asked as ask
 use Rattle.sx_machine.specs.Body.{Body, nil, literal, copies, words, apply, consumes}
-use Rattle.sx_machine.specs.Run.{Out, gives, next, wrap, run_body, copied_attribute, copied_attributes}
+use Rattle.sx_machine.specs.Run.{Output, gives, next, wrap, run_body, copied_attribute, copied_attributes}
 use Rattle.sx_machine.specs.Plan.{Plan, still, looking, then_plan, plan_of, before_of, after_of}
 use Rattle.sx_machine.proofs.Outs.{IsSettled, next-assoc, next-nil, next_settled}
 use Rattle.sx_machine.proofs.Bodies.{IsGood, OneOf}
 
 pub then-assoc : (p q r : Plan) → then_plan (then_plan p q) r ≡ then_plan p (then_plan q r)
 then-assoc (still a) (still c) (still e) = ap still (next-assoc a c e)
-then-assoc (still a) (still c) (looking e f) = ap (λ (o : Out). looking o f) (next-assoc a c e)
+then-assoc (still a) (still c) (looking e f) = ap (λ (o : Output). looking o f) (next-assoc a c e)
 then-assoc (still a) (looking c d) (still e) = refl
 then-assoc (still a) (looking c d) (looking e f) = refl
 then-assoc (looking a b) (still c) (still e) = ap (looking a) (next-assoc b c e)
@@ -24,7 +24,7 @@ then-nil (looking a b) = ap (looking a) (next-nil b)
 
 -- ---- what a plan gives, where the children give this
 
-abbrev pub mean : Plan → Out → Out
+abbrev pub mean : Plan → Output → Output
 mean (still a) k = a
 mean (looking a b) k = next a (next k b)
 
@@ -34,7 +34,7 @@ OneLooks (still a) q = Unit {0}
 OneLooks (looking a b) (still c) = Unit {0}
 OneLooks (looking a b) (looking c d) = ⊥
 
-mean_then : (p q : Plan) (k : Out) → OneLooks p q → mean (then_plan p q) k ≡ next (mean p k) (mean q k)
+mean_then : (p q : Plan) (k : Output) → OneLooks p q → mean (then_plan p q) k ≡ next (mean p k) (mean q k)
 mean_then (still a) (still c) k h = refl
 mean_then (still a) (looking c d) k h = next-assoc a c (next k d)
 mean_then (looking a b) (still c) k h = ap (next a) (sym (next-assoc k b c)) ∙ sym (next-assoc a (next k b) c)
@@ -83,17 +83,17 @@ module _ (left : ℕ) where
 
   -- ---- a body is what its plan gives
 
-  last_still : (p : Plan) (a : Out) → OneLooks p (still a)
+  last_still : (p : Plan) (a : Output) → OneLooks p (still a)
   last_still (still c) a = tt
   last_still (looking c d) a = tt
 
-  wrapped : (name : Name) (content : Body Name) (k : Out) → mean (started name content) k ≡ wrap name (mean (plan_of left content) k)
+  wrapped : (name : Name) (content : Body Name) (k : Output) → mean (started name content) k ≡ wrap name (mean (plan_of left content) k)
   wrapped name content k =
       let start = gives (ask.starts name ∷ []) in
       let end = gives (ask.ends ∷ []) in
       let inner = then_plan (still start) (plan_of left content) in
       mean_then inner (still end) k (last_still inner end)
-      ∙ ap (λ (o : Out). next o end) (mean_then (still start) (plan_of left content) k tt)
+      ∙ ap (λ (o : Output). next o end) (mean_then (still start) (plan_of left content) k tt)
       ∙ next-assoc start (mean (plan_of left content) k) end
 
   or_left : (a b : Bool) → (a || b) ≡ false → a ≡ false
@@ -119,11 +119,11 @@ module _ (left : ℕ) where
   good_motionless (words s rest) h = good_motionless rest h
   good_motionless (apply rest) h = absurd (cc)
 
-  pub split : (k : Out) (b : Body Name) → IsGood b → run_body (copied_attributes left) k b ≡ mean (plan_of left b) k
+  pub split : (k : Output) (b : Body Name) → IsGood b → run_body (copied_attributes left) k b ≡ mean (plan_of left b) k
   split k nil h = refl
   split k (literal line name content rest) h =
-      ap₂ (λ (x y : Out). next (wrap name x) y) (split k content h.0) (split k rest h.1)
-      ∙ ap (λ (o : Out). next o (mean (plan_of left rest) k)) (sym (wrapped name content k))
+      ap₂ (λ (x y : Output). next (wrap name x) y) (split k content h.0) (split k rest h.1)
+      ∙ ap (λ (o : Output). next o (mean (plan_of left rest) k)) (sym (wrapped name content k))
       ∙ sym (mean_then (started name content) (plan_of left rest) k
       (one_looks (started name content) (plan_of left rest) (consumes content) (consumes rest)
       (looks_started name content ∙ looks content) (looks rest) h.2))

@@ -1,11 +1,11 @@
 -- One happening more, on the open tree and in the tasks of the open elements.
 use Rattle.std.proofs.Common.{◌≡◌, ℕ, zero, suc, Bool, true, false, cond, List, [], ◌∷◌, refl, ap, sym, ◌∙◌, subst}
-use Rattle.sx_tree.specs.Tree.{Happening, starts, ends, says, instructs, closes, Forest, none, text, instruction, element, has_open, begun, push_node, push_end}
-use Rattle.sx_tree.specs.Named.{Name}
+use Rattle.sx_tree.specs.Tree.{TreeEvent, starts, ends, says, instructs, closes, Forest, none, text, instruction, element, has_open, first_node, push_node, push_end}
+use Rattle.sx_named.specs.Named.{Name}
 use Rattle.sx_machine.specs.declared.session.Job.{Job}
 use Rattle.sx_machine.specs.declared.session.Job.TheVariants as job
 use Rattle.sx_machine.specs.Body.{Body}
-use Rattle.sx_machine.specs.Run.{Out, gives, next, invoked, applied, element_node, text_node, instruction_node}
+use Rattle.sx_machine.specs.Run.{Output, gives, next, invoked, applied, element_node, text_node, instruction_node}
 use Rattle.sx_machine.specs.Plan.{Plan, still, looking, Task, plan_of, before_of, job_of, after_of, content, entered, first, tasks, reacts, closing, last_closing, last_job, ending_of, saying, instructing}
 use Rattle.sx_machine.proofs.Outs.{waiting, resume, IsGoing, IsSettled, next-assoc, going-next, next_going, next_settled, resume_going, resume_behind, end_here, next-nil}
 use Rattle.sx_machine.proofs.Bodies.{IsGood}
@@ -16,15 +16,15 @@ abbrev IsSound : Task → Type 0
 IsSound t = t.job ≡ job.Skip → t.after ≡ gives []
 
 -- nodes after what happens in them
-abbrev pub pushed : {E : Type 0} → Forest E → Happening E → Forest E
-pushed f (starts e) = push_node f (begun (starts e))
+abbrev pub pushed : {E : Type 0} → Forest E → TreeEvent E → Forest E
+pushed f (starts e) = push_node f (first_node (starts e))
 pushed f ends = push_end f
-pushed f (says s) = push_node f (begun (says s))
-pushed f (instructs target c) = push_node f (begun (instructs target c))
+pushed f (says s) = push_node f (first_node (says s))
+pushed f (instructs target c) = push_node f (first_node (instructs target c))
 pushed f closes = f
 
 -- it is not the close
-abbrev pub GoesOn : {E : Type 0} → Happening E → Type 0
+abbrev pub GoesOn : {E : Type 0} → TreeEvent E → Type 0
 GoesOn (starts e) = Unit {0}
 GoesOn ends = Unit {0}
 GoesOn (says s) = Unit {0}
@@ -32,10 +32,10 @@ GoesOn (instructs target c) = Unit {0}
 GoesOn closes = ⊥
 
 -- a plan, in the words of a task
-in_three : (left : ℕ) (p : Plan) (k : Out) (c : Job → Out) → c (job.Apply left) ≡ k → c job.Skip ≡ gives [] →
+in_three : (left : ℕ) (p : Plan) (k : Output) (c : Job → Output) → c (job.Apply left) ≡ k → c job.Skip ≡ gives [] →
     mean p k ≡ next (before_of p) (next (c (job_of left p)) (after_of p))
-in_three left (still a) k c e z = sym (next-nil a) ∙ ap (λ (x : Out). next a (next x (gives []))) (sym z)
-in_three left (looking a b) k c e z = ap (λ (x : Out). next a (next x b)) (sym e)
+in_three left (still a) k c e z = sym (next-nil a) ∙ ap (λ (x : Output). next a (next x (gives []))) (sym z)
+in_three left (looking a b) k c e z = ap (λ (x : Output). next a (next x b)) (sym e)
 
 sound_at : (left : ℕ) (p : Plan) → job_of left p ≡ job.Skip → after_of p ≡ gives []
 sound_at left (still a) e = refl
@@ -43,7 +43,7 @@ sound_at left (looking a b) e = absurd (cc)
 
 module _ {E : Type 0} (is_copying : Bool) (chosen : E → Body Name) (good : (e : E) → IsGood (chosen e)) where
   -- what comes of an element behind what comes first
-  abbrev tail : Task → Bool → Forest E → Out
+  abbrev tail : Task → Bool → Forest E → Output
   tail t o kids = next (content is_copying chosen t.job o kids) t.after
 
   -- a template at an element, in three parts
@@ -119,14 +119,14 @@ module _ {E : Type 0} (is_copying : Bool) (chosen : E → Body Name) (good : (e 
   pub closed : (left : ℕ) (kids : Forest E) → has_open kids ≡ false → applied is_copying chosen left false kids ≡ resume (applied is_copying chosen left true kids) (gives [])
   closed left none h = refl
   closed left (text s rest) h =
-      ap (λ (x : Out). next (invoked is_copying chosen left (text_node s)) x) (closed left rest h)
+      ap (λ (x : Output). next (invoked is_copying chosen left (text_node s)) x) (closed left rest h)
       ∙ resume_behind (invoked is_copying chosen left (text_node s)) (applied is_copying chosen left true rest) (gives []) (text_settled left s)
   closed left (instruction target c rest) h =
-      ap (λ (x : Out). next (invoked is_copying chosen left (instruction_node target c)) x) (closed left rest h)
+      ap (λ (x : Output). next (invoked is_copying chosen left (instruction_node target c)) x) (closed left rest h)
       ∙ resume_behind (invoked is_copying chosen left (instruction_node target c)) (applied is_copying chosen left true rest) (gives []) (instruction_settled left target c)
   closed left (element e true kids rest) h = absurd (cc)
   closed left (element e false kids rest) h =
-      ap (λ (x : Out). next (invoked is_copying chosen left (element_node e false kids)) x) (closed left rest h)
+      ap (λ (x : Output). next (invoked is_copying chosen left (element_node e false kids)) x) (closed left rest h)
       ∙ resume_behind (invoked is_copying chosen left (element_node e false kids)) (applied is_copying chosen left true rest) (gives []) (element_settled left e kids (settled kids (entered chosen (job.Apply left) e).job))
 
   saying_going : (j : Job) (s : List ℕ) → IsGoing (saying j s)
@@ -147,7 +147,7 @@ module _ {E : Type 0} (is_copying : Bool) (chosen : E → Body Name) (good : (e 
   ending_going [] = tt
   ending_going (t ∷ ts) = last_closing_going t ts
 
-  pub reacts_going : (j : Job) (ts : List Task) (h : Happening E) → GoesOn h → IsGoing (reacts is_copying chosen j ts h)
+  pub reacts_going : (j : Job) (ts : List Task) (h : TreeEvent E) → GoesOn h → IsGoing (reacts is_copying chosen j ts h)
   reacts_going j ts (starts e) g = next_going (first chosen (last_job j ts) e) waiting tt
   reacts_going j ts ends g = ending_going ts
   reacts_going j ts (says s) g = saying_going (last_job j ts) s
@@ -175,7 +175,7 @@ module _ {E : Type 0} (is_copying : Bool) (chosen : E → Body Name) (good : (e 
   skip_ends (element e true kids rest) = skip_closes (entered chosen job.Skip e) kids refl
   skip_ends (element e false kids rest) = skip_ends rest
 
-  skip_quiet : (kids : Forest E) (h : Happening E) → GoesOn h → reacts is_copying chosen job.Skip (tasks chosen job.Skip kids) h ≡ waiting
+  skip_quiet : (kids : Forest E) (h : TreeEvent E) → GoesOn h → reacts is_copying chosen job.Skip (tasks chosen job.Skip kids) h ≡ waiting
   skip_quiet kids (starts e) g = ap (λ (j : Job). next (first chosen j e) waiting) (skip_stays kids)
   skip_quiet kids ends g = skip_ends kids
   skip_quiet kids (says s) g = ap (λ (j : Job). saying j s) (skip_stays kids)
@@ -185,74 +185,74 @@ module _ {E : Type 0} (is_copying : Bool) (chosen : E → Body Name) (good : (e 
   -- an open element
   inside : (t : Task) → IsSound t → (kids : Forest E) → (j : Job) → t.job ≡ j → next (tail t true kids) waiting ≡ next (content is_copying chosen t.job true kids) waiting
   inside t sound kids job.Skip e = rw (e, sound e) refl
-  inside t sound kids (job.Apply left) e = rw e (ap (λ (x : Out). next x waiting) (going-next (applied is_copying chosen left true kids) t.after (going left kids)))
+  inside t sound kids (job.Apply left) e = rw e (ap (λ (x : Output). next x waiting) (going-next (applied is_copying chosen left true kids) t.after (going left kids)))
 
   open_element : (left : ℕ) (e : E) (kids : Forest E) →
       next (invoked is_copying chosen left (element_node e true kids)) waiting ≡ next (first chosen (job.Apply left) e) (next (content is_copying chosen (entered chosen (job.Apply left) e).job true kids) waiting)
   open_element left e kids =
       let t : Task = entered chosen (job.Apply left) e in
-      ap (λ (x : Out). next x waiting) (at_element left e true kids) ∙ next-assoc (first chosen (job.Apply left) e) (tail t true kids) waiting
-      ∙ ap (λ (x : Out). next (first chosen (job.Apply left) e) x) (inside t (entered_sound (job.Apply left) e) kids t.job refl)
+      ap (λ (x : Output). next x waiting) (at_element left e true kids) ∙ next-assoc (first chosen (job.Apply left) e) (tail t true kids) waiting
+      ∙ ap (λ (x : Output). next (first chosen (job.Apply left) e) x) (inside t (entered_sound (job.Apply left) e) kids t.job refl)
 
-  abbrev Next : Job → Forest E → Happening E → Type 0
+  abbrev Next : Job → Forest E → TreeEvent E → Type 0
   Next j f h = content is_copying chosen j true (pushed f h) ≡ resume (content is_copying chosen j true f) (reacts is_copying chosen j (tasks chosen j f) h)
 
-  deeper : (j : Job) (kids : Forest E) (h : Happening E) → GoesOn h →
+  deeper : (j : Job) (kids : Forest E) (h : TreeEvent E) → GoesOn h →
       next (resume (content is_copying chosen j true kids) (reacts is_copying chosen j (tasks chosen j kids) h)) waiting ≡ resume (next (content is_copying chosen j true kids) waiting) (reacts is_copying chosen j (tasks chosen j kids) h)
-  deeper job.Skip kids h g = ap (λ (r : Out). next (resume (gives []) r) waiting) (skip_quiet kids h g) ∙ ap (λ (r : Out). resume (next (gives []) waiting) r) (sym (skip_quiet kids h g))
+  deeper job.Skip kids h g = ap (λ (r : Output). next (resume (gives []) r) waiting) (skip_quiet kids h g) ∙ ap (λ (r : Output). resume (next (gives []) waiting) r) (sym (skip_quiet kids h g))
   deeper (job.Apply left) kids h g =
-      let x : Out = applied is_copying chosen left true kids in
-      let r : Out = reacts is_copying chosen (job.Apply left) (tasks chosen (job.Apply left) kids) h in
+      let x : Output = applied is_copying chosen left true kids in
+      let r : Output = reacts is_copying chosen (job.Apply left) (tasks chosen (job.Apply left) kids) h in
       going-next (resume x r) waiting (resume_going x r (going left kids) (reacts_going (job.Apply left) (tasks chosen (job.Apply left) kids) h g))
-      ∙ ap (λ (y : Out). resume y r) (sym (going-next x waiting (going left kids)))
+      ∙ ap (λ (y : Output). resume y r) (sym (going-next x waiting (going left kids)))
 
-  step_inside : (j : Job) (e : E) (kids rest after : Forest E) (h : Happening E) → GoesOn h → Next (entered chosen j e).job kids h →
+  step_inside : (j : Job) (e : E) (kids rest after : Forest E) (h : TreeEvent E) → GoesOn h → Next (entered chosen j e).job kids h →
       content is_copying chosen j true (element e true (pushed kids h) after) ≡ resume (content is_copying chosen j true (element e true kids rest)) (reacts is_copying chosen (entered chosen j e).job (tasks chosen (entered chosen j e).job kids) h)
   step_inside job.Skip e kids rest after h g k = ap (resume (gives [])) (sym (skip_quiet kids h g))
   step_inside (job.Apply left) e kids rest after h g k =
       let t : Task = entered chosen (job.Apply left) e in
-      let a : Out = first chosen (job.Apply left) e in
-      let r : Out = reacts is_copying chosen t.job (tasks chosen t.job kids) h in
-      open_element left e (pushed kids h) ∙ ap (λ (x : Out). next a (next x waiting)) k
-      ∙ ap (λ (x : Out). next a x) (deeper t.job kids h g)
+      let a : Output = first chosen (job.Apply left) e in
+      let r : Output = reacts is_copying chosen t.job (tasks chosen t.job kids) h in
+      open_element left e (pushed kids h) ∙ ap (λ (x : Output). next a (next x waiting)) k
+      ∙ ap (λ (x : Output). next a x) (deeper t.job kids h g)
       ∙ resume_behind a (next (content is_copying chosen t.job true kids) waiting) r (first_settled (job.Apply left) e)
-      ∙ ap (λ (x : Out). resume x r) (sym (open_element left e kids))
+      ∙ ap (λ (x : Output). resume x r) (sym (open_element left e kids))
 
   closed_tail : (t : Task) → IsSound t → (kids : Forest E) → has_open kids ≡ false → (j : Job) → t.job ≡ j →
       next (tail t false kids) waiting ≡ resume (next (content is_copying chosen t.job true kids) waiting) (closing t)
   closed_tail t sound kids h job.Skip e = rw (e, sound e) refl
   closed_tail t sound kids h (job.Apply left) e =
-      rw (e, closed left kids h) (end_here (applied is_copying chosen left true kids) t.after (going left kids) ∙ ap (λ (x : Out). resume x (closing t)) (sym (going-next (applied is_copying chosen left true kids) waiting (going left kids))))
+      rw (e, closed left kids h) (end_here (applied is_copying chosen left true kids) t.after (going left kids) ∙ ap (λ (x : Output). resume x (closing t)) (sym (going-next (applied is_copying chosen left true kids) waiting (going left kids))))
 
   step_close : (j : Job) (e : E) (kids rest : Forest E) → has_open kids ≡ false →
       content is_copying chosen j true (element e false kids none) ≡ resume (content is_copying chosen j true (element e true kids rest)) (closing (entered chosen j e))
   step_close job.Skip e kids rest h = refl
   step_close (job.Apply left) e kids rest h =
       let t : Task = entered chosen (job.Apply left) e in
-      let a : Out = first chosen (job.Apply left) e in
-      ap (λ (x : Out). next x waiting) (at_element left e false kids) ∙ next-assoc a (tail t false kids) waiting
-      ∙ ap (λ (x : Out). next a x) (closed_tail t (entered_sound (job.Apply left) e) kids h t.job refl)
+      let a : Output = first chosen (job.Apply left) e in
+      ap (λ (x : Output). next x waiting) (at_element left e false kids) ∙ next-assoc a (tail t false kids) waiting
+      ∙ ap (λ (x : Output). next a x) (closed_tail t (entered_sound (job.Apply left) e) kids h t.job refl)
       ∙ resume_behind a (next (content is_copying chosen t.job true kids) waiting) (closing t) (first_settled (job.Apply left) e)
-      ∙ ap (λ (x : Out). resume x (closing t)) (sym (open_element left e kids))
+      ∙ ap (λ (x : Output). resume x (closing t)) (sym (open_element left e kids))
 
-  step_text : (j : Job) (s : List ℕ) (rest after : Forest E) (r : Out) → content is_copying chosen j true after ≡ resume (content is_copying chosen j true rest) r →
+  step_text : (j : Job) (s : List ℕ) (rest after : Forest E) (r : Output) → content is_copying chosen j true after ≡ resume (content is_copying chosen j true rest) r →
       content is_copying chosen j true (text s after) ≡ resume (content is_copying chosen j true (text s rest)) r
   step_text job.Skip s rest after r k = refl
   step_text (job.Apply left) s rest after r k =
-      ap (λ (x : Out). next (invoked is_copying chosen left (text_node s)) x) k ∙ resume_behind (invoked is_copying chosen left (text_node s)) (applied is_copying chosen left true rest) r (text_settled left s)
+      ap (λ (x : Output). next (invoked is_copying chosen left (text_node s)) x) k ∙ resume_behind (invoked is_copying chosen left (text_node s)) (applied is_copying chosen left true rest) r (text_settled left s)
 
-  step_instruction : (j : Job) (target c : List ℕ) (rest after : Forest E) (r : Out) → content is_copying chosen j true after ≡ resume (content is_copying chosen j true rest) r →
+  step_instruction : (j : Job) (target c : List ℕ) (rest after : Forest E) (r : Output) → content is_copying chosen j true after ≡ resume (content is_copying chosen j true rest) r →
       content is_copying chosen j true (instruction target c after) ≡ resume (content is_copying chosen j true (instruction target c rest)) r
   step_instruction job.Skip target c rest after r k = refl
   step_instruction (job.Apply left) target c rest after r k =
-      ap (λ (x : Out). next (invoked is_copying chosen left (instruction_node target c)) x) k
+      ap (λ (x : Output). next (invoked is_copying chosen left (instruction_node target c)) x) k
       ∙ resume_behind (invoked is_copying chosen left (instruction_node target c)) (applied is_copying chosen left true rest) r (instruction_settled left target c)
 
-  step_behind : (j : Job) (e : E) (kids rest after : Forest E) (r : Out) → content is_copying chosen j true after ≡ resume (content is_copying chosen j true rest) r →
+  step_behind : (j : Job) (e : E) (kids rest after : Forest E) (r : Output) → content is_copying chosen j true after ≡ resume (content is_copying chosen j true rest) r →
       content is_copying chosen j true (element e false kids after) ≡ resume (content is_copying chosen j true (element e false kids rest)) r
   step_behind job.Skip e kids rest after r k = refl
   step_behind (job.Apply left) e kids rest after r k =
-      ap (λ (x : Out). next (invoked is_copying chosen left (element_node e false kids)) x) k
+      ap (λ (x : Output). next (invoked is_copying chosen left (element_node e false kids)) x) k
       ∙ resume_behind (invoked is_copying chosen left (element_node e false kids)) (applied is_copying chosen left true rest) r (element_settled left e kids (settled kids (entered chosen (job.Apply left) e).job))
 
   fresh : (j : Job) → next (content is_copying chosen j true none) waiting ≡ waiting
@@ -261,7 +261,7 @@ module _ {E : Type 0} (is_copying : Bool) (chosen : E → Body Name) (good : (e 
 
   none_starts : (j : Job) (e : E) → Next j none (starts e)
   none_starts job.Skip e = refl
-  none_starts (job.Apply left) e = open_element left e none ∙ ap (λ (x : Out). next (first chosen (job.Apply left) e) x) (fresh (entered chosen (job.Apply left) e).job)
+  none_starts (job.Apply left) e = open_element left e none ∙ ap (λ (x : Output). next (first chosen (job.Apply left) e) x) (fresh (entered chosen (job.Apply left) e).job)
 
   none_says : (j : Job) (s : List ℕ) → Next j none (says s)
   none_says job.Skip s = refl
@@ -277,7 +277,7 @@ module _ {E : Type 0} (is_copying : Bool) (chosen : E → Body Name) (good : (e 
   none_ends job.Skip = refl
   none_ends (job.Apply left) = refl
 
-  step_none : (j : Job) (h : Happening E) → GoesOn h → Next j none h
+  step_none : (j : Job) (h : TreeEvent E) → GoesOn h → Next j none h
   step_none j (starts e) g = none_starts j e
   step_none j ends g = none_ends j
   step_none j (says s) g = none_says j s
@@ -303,13 +303,13 @@ module _ {E : Type 0} (is_copying : Bool) (chosen : E → Body Name) (good : (e 
       resume (content is_copying chosen j true (element e true kids rest)) (reacts is_copying chosen j (entered chosen j e ∷ tasks chosen (entered chosen j e).job kids) ends)
   step_end true j e kids rest p k =
       step_inside j e kids rest none ends tt k
-      ∙ ap (λ (r : Out). resume (content is_copying chosen j true (element e true kids rest)) r) (sym (closes_deeper (entered chosen j e).job (entered chosen j e) kids p))
+      ∙ ap (λ (r : Output). resume (content is_copying chosen j true (element e true kids rest)) r) (sym (closes_deeper (entered chosen j e).job (entered chosen j e) kids p))
   step_end false j e kids rest p k =
       step_close j e kids rest p
       ∙ ap (λ (ts : List Task). resume (content is_copying chosen j true (element e true kids rest)) (reacts is_copying chosen j (entered chosen j e ∷ ts) ends)) (sym (no_tasks (entered chosen j e).job kids p))
 
   -- one happening more
-  pub step : (f : Forest E) (j : Job) (h : Happening E) → GoesOn h → Next j f h
+  pub step : (f : Forest E) (j : Job) (h : TreeEvent E) → GoesOn h → Next j f h
   step none j h g = step_none j h g
   step (text s rest) j (starts e) g = step_text j s rest _ _ (step rest j (starts e) tt)
   step (text s rest) j ends g = step_text j s rest _ _ (step rest j ends tt)

@@ -1,12 +1,13 @@
 -- The tasks of the open elements after one happening more.
 use Rattle.std.proofs.Common.{◌≡◌, ℕ, ◌<◌, ◌-◌, Bool, true, false, cond, List, [], ◌∷◌, ◌++◌, length, map, get_or, refl, ap, sym, ◌∙◌, arith}
-use Rattle.sx_tree.specs.Tree.{Forest, none, text, instruction, element, has_open, begun, starts, says, instructs, push_node, push_end}
+use Rattle.sx_tree.specs.Tree.{Forest, none, text, instruction, element, has_open, first_node, starts, says, instructs, push_node, push_end}
 use Rattle.sx_machine.specs.declared.plans.Rule.{Rule}
 use Rattle.sx_machine.specs.declared.session.Frame.{Frame}
 use Rattle.sx_machine.specs.declared.session.Job.{Job}
 use Rattle.sx_machine.specs.Body.{Body}
-use Rattle.sx_tree.specs.Named.{Name}
+use Rattle.sx_named.specs.Named.{Name}
 use Rattle.sx_machine.specs.Plan.{Task, entered, tasks, closing, last_closing, last_job, ending_of, task_of}
+use Rattle.sx_names.specs.Numbering.{NameTable}
 
 -- all but the last
 abbrev front : Task → List Task → List Task
@@ -38,21 +39,21 @@ ending-snoc [] u = refl
 ending-snoc (t ∷ ts) u = last_closing-snoc t u ts
 
 module _ {E : Type 0} (chosen : E → Body Name) where
-  pub tasks_start : (f : Forest E) (j : Job) (e : E) → tasks chosen j (push_node f (begun (starts e))) ≡ tasks chosen j f ++ entered chosen (last_job j (tasks chosen j f)) e ∷ []
+  pub tasks_start : (f : Forest E) (j : Job) (e : E) → tasks chosen j (push_node f (first_node (starts e))) ≡ tasks chosen j f ++ entered chosen (last_job j (tasks chosen j f)) e ∷ []
   tasks_start none j e = refl
   tasks_start (text s rest) j e = tasks_start rest j e
   tasks_start (instruction target c rest) j e = tasks_start rest j e
   tasks_start (element d true kids rest) j e = ap (λ (ts : List Task). entered chosen j d ∷ ts) (tasks_start kids (entered chosen j d).job e)
   tasks_start (element d false kids rest) j e = tasks_start rest j e
 
-  pub tasks_text : (f : Forest E) (j : Job) (s : List ℕ) → tasks chosen j (push_node f (begun (says s))) ≡ tasks chosen j f
+  pub tasks_text : (f : Forest E) (j : Job) (s : List ℕ) → tasks chosen j (push_node f (first_node (says s))) ≡ tasks chosen j f
   tasks_text none j s = refl
   tasks_text (text t rest) j s = tasks_text rest j s
   tasks_text (instruction target c rest) j s = tasks_text rest j s
   tasks_text (element d true kids rest) j s = ap (λ (ts : List Task). entered chosen j d ∷ ts) (tasks_text kids (entered chosen j d).job s)
   tasks_text (element d false kids rest) j s = tasks_text rest j s
 
-  pub tasks_instruction : (f : Forest E) (j : Job) (t d : List ℕ) → tasks chosen j (push_node f (begun (instructs t d))) ≡ tasks chosen j f
+  pub tasks_instruction : (f : Forest E) (j : Job) (t d : List ℕ) → tasks chosen j (push_node f (first_node (instructs t d))) ≡ tasks chosen j f
   tasks_instruction none j t d = refl
   tasks_instruction (text s rest) j t d = tasks_instruction rest j t d
   tasks_instruction (instruction target c rest) j t d = tasks_instruction rest j t d
@@ -92,12 +93,12 @@ module _ {E : Type 0} (chosen : E → Body Name) where
   pub tasks_end_none : (f : Forest E) (j : Job) → tasks chosen j f ≡ [] → tasks chosen j (push_end f) ≡ []
   tasks_end_none f j e = ends_at f j ∙ ap all_but_last e
 
-last_at : (names : List (List ℕ × List ℕ)) (rules : List Rule) (j : Job) (f d : Frame) (fs : List Frame) → (get_or (f ∷ fs) (length fs) d).job ≡ last_job j (map (task_of names rules) (f ∷ fs))
+last_at : (names : NameTable) (rules : List Rule) (j : Job) (f d : Frame) (fs : List Frame) → (get_or (f ∷ fs) (length fs) d).job ≡ last_job j (map (task_of names rules) (f ∷ fs))
 last_at names rules j f d [] = refl
 last_at names rules j f d (g ∷ fs) = last_at names rules f.job g d fs
 
 -- the job of the last frame
-pub last_job-last : (names : List (List ℕ × List ℕ)) (rules : List Rule) (j : Job) (fs : List Frame) (x : Frame) → 0 < length fs → x ≡ get_or fs (length fs - 1) x → x.job ≡ last_job j (map (task_of names rules) fs)
+pub last_job-last : (names : NameTable) (rules : List Rule) (j : Job) (fs : List Frame) (x : Frame) → 0 < length fs → x ≡ get_or fs (length fs - 1) x → x.job ≡ last_job j (map (task_of names rules) fs)
 last_job-last names rules j [] x h e = absurd (omega arith)
 last_job-last names rules j (f ∷ fs) x h e =
     let k : length (f ∷ fs) - 1 ≡ length fs = omega arith in

@@ -1,7 +1,7 @@
 -- The content of templates, as definitions recurse on it, and what keeps a stylesheet from being streamed.
 use Rattle.std.specs.Prelude.{ℕ, ◌+◌, ◌<◌, nat_lt, Bool, true, false, ◌||◌, List, [], ◌∷◌, Option, Some, None, if◌then◌else◌}
 use Rattle.sx_tree.specs.declared.events.Label.{Label}
-use Rattle.sx_tree.specs.Named.{Name, Attribute, name_at}
+use Rattle.sx_named.specs.Named.{Name, Attribute, name_at}
 use Rattle.sx_kinds.specs.declared.constructs.InstrForm.{InstrForm}
 use Rattle.sx_kinds.specs.declared.constructs.InstrForm.TheVariants as form
 use Rattle.sx_kinds.specs.declared.constructs.Instr.{Instr}
@@ -9,6 +9,7 @@ use Rattle.sx_kinds.specs.declared.constructs.Instr.TheOpen.{Instr-F}
 use Rattle.sx_kinds.specs.declared.constructs.Instr.TheFolds.{fold-Instr}
 use Rattle.sx_kinds.specs.declared.constructs.NamePattern.{NamePattern}
 use Rattle.sx_kinds.specs.declared.sheets.Template.{Template}
+use Rattle.sx_names.specs.Numbering.{NameTable}
 
 -- Instructions one behind another, where N is how names are given: a literal result element with the line on which it
 -- starts, its name and its content; attributes, each copied; a text; or an application of templates to the children; then
@@ -43,7 +44,7 @@ body_of [] = nil
 body_of (i ∷ is) = instr_in_front i (body_of is)
 
 -- a body with its names written out, by a table of names
-abbrev pub written_out : List (List ℕ × List ℕ) → Body Label → Body Name
+abbrev pub written_out : NameTable → Body Label → Body Name
 written_out names nil = nil
 written_out names (literal line label content rest) = literal line (name_at names label) (written_out names content) (written_out names rest)
 written_out names (copies attributes rest) = copies attributes (written_out names rest)

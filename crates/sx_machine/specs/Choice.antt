@@ -1,9 +1,10 @@
 -- Which template is chosen for an element, or else what the built-in one does (XSLT 3.0, 6.4, 6.5 and 6.7).
 use Rattle.std.specs.Prelude.{ℕ, Bool, true, false, ◌&&◌, bytes_eq, List, [], ◌∷◌, Option, Some, None, slice_get, if◌then◌else◌}
-use Rattle.sx_tree.specs.Named.{Name, Begun}
+use Rattle.sx_named.specs.Named.{Name, ElementStart}
 use Rattle.sx_kinds.specs.declared.constructs.NamePattern.{NamePattern}
 use Rattle.sx_kinds.specs.declared.sheets.Template.{Template}
 use Rattle.sx_machine.specs.Body.{Body, nil, literal, copies, apply, body_of, written_out}
+use Rattle.sx_names.specs.Numbering.{NameTable}
 
 module _ {X : Type 0} where
   -- this, or another where it is none
@@ -27,21 +28,21 @@ pattern_passes test None = false
 pattern_passes test (Some p) = test p.name
 
 -- the templates that match an element of this name: those whose pattern has its namespace and local name, by this table of names
-abbrev pub matches : List (List ℕ × List ℕ) → Name → Template → Bool
+abbrev pub matches : NameTable → Name → Template → Bool
 matches names name t = pattern_passes (λ n. is_name name (slice_get names n)) t.pattern
 
 -- the content of the built-in template: it applies templates to the children; shallow copy does that in a copy of the
 -- element, behind its attributes
-abbrev pub built_in : Bool → Begun → Body Name
+abbrev pub built_in : Bool → ElementStart → Body Name
 built_in false e = apply nil
 built_in true e = literal 0 e.name (copies e.attributes (apply nil)) nil
 
 -- the body of the chosen template, or of the built-in one
-abbrev pub body_or : List (List ℕ × List ℕ) → Body Name → Option Template → Body Name
+abbrev pub body_or : NameTable → Body Name → Option Template → Body Name
 body_or names built_in None = built_in
 body_or names built_in (Some t) = written_out names (body_of t.body)
 
 -- The body for an element, where nodes that no template matches are or are not copied: all priorities are equal, so the last
 -- template that matches is chosen.
-abbrev pub chosen_for : List (List ℕ × List ℕ) → Bool → List Template → Begun → Body Name
+abbrev pub chosen_for : NameTable → Bool → List Template → ElementStart → Body Name
 chosen_for names is_copying templates e = body_or names (built_in is_copying e) (last_that (matches names e.name) templates)

@@ -4,11 +4,12 @@ use Rattle.sx_kinds.specs.declared.sheets.Mode.{Mode}
 use Rattle.sx_kinds.specs.declared.sheets.OnNoMatch.{OnNoMatch}
 use Rattle.sx_kinds.specs.declared.sheets.OnNoMatch.TheVariants as unmatched
 use Rattle.sx_kinds.specs.declared.sheets.Sheet.{Sheet}
-use Rattle.sx_tree.specs.Tree.{Document, Happening, tree_of}
-use Rattle.sx_tree.specs.Named.{Begun}
+use Rattle.sx_tree.specs.Tree.{Document, TreeEvent, tree_of}
+use Rattle.sx_named.specs.Named.{ElementStart}
 use Rattle.sx_machine.specs.Body.{culprit, AreKnown}
 use Rattle.sx_machine.specs.Choice.{chosen_for}
-use Rattle.sx_machine.specs.Run.{Out, Result, meaning, result_of}
+use Rattle.sx_machine.specs.Run.{Output, Result, meaning, result_of}
+use Rattle.sx_names.specs.Numbering.{NameTable}
 
 -- the one mode of a thin stylesheet: unnamed, declared, streamable
 abbrev pub thin_mode : OnNoMatch → Mode
@@ -30,16 +31,16 @@ is_copying_first (m ∷ ms) = is_copying m.no_match
 
 -- It has the unnamed mode alone, which is declared and streamable and passes on the text of nodes that no template matches, or
 -- copies them; it can be streamed; and the names have the numbers of its names.
-pub record IsReady (sheet : Sheet) (names : List (List ℕ × List ℕ)) : Type 0 where
+pub record IsReady (sheet : Sheet) (names : NameTable) : Type 0 where
   pub mode : (sheet.modes ≡ thin_mode unmatched.TextOnlyCopy ∷ []) ⊎ (sheet.modes ≡ thin_mode unmatched.ShallowCopy ∷ [])
   pub streamable : culprit sheet.templates ≡ None
   pub known : AreKnown (length names) sheet.templates
 
 -- what the stylesheet asks for on an open tree, where so many invocations may be open
-abbrev pub meaning_on : Sheet → List (List ℕ × List ℕ) → ℕ → Document Begun → Out
+abbrev pub meaning_on : Sheet → NameTable → ℕ → Document ElementStart → Output
 meaning_on sheet names invocations d =
     meaning (is_copying_first sheet.modes) (chosen_for names (is_copying_first sheet.modes) sheet.templates) invocations d
 
 -- the result of the stylesheet on the open tree of what has happened
-abbrev pub result_for : Sheet → List (List ℕ × List ℕ) → ℕ → List (Happening Begun) → Result
+abbrev pub result_for : Sheet → NameTable → ℕ → List (TreeEvent ElementStart) → Result
 result_for sheet names invocations p = result_of (meaning_on sheet names invocations (tree_of p))

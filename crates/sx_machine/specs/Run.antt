@@ -2,7 +2,7 @@
 use Rattle.std.specs.Prelude.{ℕ, zero, suc, Bool, true, false, List, [], ◌∷◌, ◌++◌, Option, Some, None, if◌then◌else◌}
 use Rattle.sx_atoms.specs.declared.error_codes.Code.{Code}
 use Rattle.sx_atoms.specs.declared.error_codes.Code.TheVariants as error
-use Rattle.sx_tree.specs.Named.{Name, Attribute}
+use Rattle.sx_named.specs.Named.{Name, Attribute}
 use Rattle.sx_tree.specs.Tree.{Forest, none, text, instruction, element, Document}
 use Rattle.sx_build.specs.Asked as ask
 use Rattle.sx_build.specs.Asked.{Asked}
@@ -17,33 +17,33 @@ pub data Ending : Type 0 where
   stops : Code → Ending
 
 -- what is asked for in turn, and where it ends
-pub record Out : Type 0 where
+pub record Output : Type 0 where
   pub raw : List Asked
   pub ending : Ending
 
 -- nothing, and it ends so
-abbrev pub nothing : Ending → Out
+abbrev pub nothing : Ending → Output
 nothing e = record { raw = []; ending = e }
 
 -- all of these
-abbrev pub gives : List Asked → Out
+abbrev pub gives : List Asked → Output
 gives raws = record { raw = raws; ending = done }
 
-abbrev pub behind : List Asked → Ending → Out → Out
+abbrev pub behind : List Asked → Ending → Output → Output
 behind raws done o = record { raw = raws ++ o.raw; ending = o.ending }
 behind raws waits o = record { raw = raws; ending = waits }
 behind raws (stops c) o = record { raw = raws; ending = stops c }
 
 -- one behind the other, up to the first end that is not done
-abbrev pub next : Out → Out → Out
+abbrev pub next : Output → Output → Output
 next a b = behind a.raw a.ending b
 
 -- an element round what is given
-abbrev pub wrap : Name → Out → Out
+abbrev pub wrap : Name → Output → Output
 wrap name o = next (gives (ask.starts name ∷ [])) (next o (gives (ask.ends ∷ [])))
 
 -- a template is invoked beyond the limit
-abbrev pub too_deep : Out
+abbrev pub too_deep : Output
 too_deep = nothing (stops error.Sxli0001)
 
 -- ---- nodes and selections (XDM 3.1; XPath 3.1, 3.3)
@@ -75,18 +75,18 @@ module _ {E : Type 0} where
   child is_open kids = record { items = children is_open kids; ending = if is_open then waits else done }
 
   -- what is run for each of these items in order, up to the first end that is not done; then the end of the items
-  abbrev pub for_each : (Node E → Out) → List (Node E) → Ending → Out
+  abbrev pub for_each : (Node E → Output) → List (Node E) → Ending → Output
   for_each run [] ending = nothing ending
   for_each run (n ∷ ns) ending = next (run n) (for_each run ns ending)
 
   -- a loop over a selection (XSLT 3.0, 6.3 and 7)
-  abbrev pub loop : (Node E → Out) → Selection E → Out
+  abbrev pub loop : (Node E → Output) → Selection E → Output
   loop run s = for_each run s.items s.ending
 
 -- ---- bodies (XSLT 3.0, 5.7 and 11)
 
 -- a body, where this is what templates give that are applied to attributes, and to the children
-abbrev pub run_body : (List Attribute → Out) → Out → Body Name → Out
+abbrev pub run_body : (List Attribute → Output) → Output → Body Name → Output
 run_body copied applied nil = gives []
 run_body copied applied (literal line name content rest) = next (wrap name (run_body copied applied content)) (run_body copied applied rest)
 run_body copied applied (copies attributes rest) = next (copied attributes) (run_body copied applied rest)
@@ -96,12 +96,12 @@ run_body copied applied (apply rest) = next applied (run_body copied applied res
 -- ---- templates (XSLT 3.0, 6.3 to 6.7)
 
 -- the built-in template of shallow copy at an attribute, where so many invocations are left, this one among them
-abbrev pub copied_attribute : ℕ → Attribute → Out
+abbrev pub copied_attribute : ℕ → Attribute → Output
 copied_attribute zero a = too_deep
 copied_attribute (suc left) a = gives (ask.has a ∷ [])
 
 -- the same at each of these attributes
-abbrev pub copied_attributes : ℕ → List Attribute → Out
+abbrev pub copied_attributes : ℕ → List Attribute → Output
 copied_attributes left [] = gives []
 copied_attributes left (a ∷ rest) = next (copied_attribute left a) (copied_attributes left rest)
 
@@ -114,18 +114,18 @@ copied_instruction true target content = ask.instructs target content ∷ []
 module _ {E : Type 0} (is_copying : Bool) (chosen : E → Body Name) where
   -- A template at a node, where so many invocations are left, this one among them. The built-in templates give a text (6.7.1,
   -- 6.7.2).
-  abbrev pub invoked : ℕ → Node E → Out
+  abbrev pub invoked : ℕ → Node E → Output
   invoked zero n = too_deep
   invoked (suc left) (text_node s) = gives (ask.says s ∷ [])
   invoked (suc left) (instruction_node target content) = gives (copied_instruction is_copying target content)
   invoked (suc left) (element_node e is_open kids) = run_body (copied_attributes left) (loop (invoked left) (child is_open kids)) (chosen e)
 
   -- templates are applied to the children of a node
-  abbrev pub applied : ℕ → Bool → Forest E → Out
+  abbrev pub applied : ℕ → Bool → Forest E → Output
   applied left is_open kids = loop (invoked left) (child is_open kids)
 
   -- the built-in template at the document node, where there may be so many invocations: it applies templates to the children
-  abbrev pub meaning : ℕ → Document E → Out
+  abbrev pub meaning : ℕ → Document E → Output
   meaning zero d = too_deep
   meaning (suc left) d = applied left d.is_open d.content
 
@@ -146,5 +146,5 @@ pub record Result : Type 0 where
   pub ending : Ending
 
 -- what is built of what is asked for
-abbrev pub result_of : Out → Result
+abbrev pub result_of : Output → Result
 result_of o = record { built = Build o.raw (is_done o.ending); ending = ending_with (error_of o.raw) o.ending }

@@ -2,8 +2,8 @@
 use Rattle.std.specs.Prelude.{◌≡◌, ℕ, zero, suc, Option, Some, None, Bool, true, false, nat_eq, slice_get, slice_index_or, List, ◌++◌, map}
 use Rattle.sx_atoms.specs.declared.error_codes.Code.TheVariants as error
 use Rattle.sx_kinds.specs.declared.sheets.Sheet.{Sheet}
-use Rattle.sx_tree.specs.Tree.{Document, Happening, tree_of}
-use Rattle.sx_tree.specs.Named.{Begun}
+use Rattle.sx_tree.specs.Tree.{Document, TreeEvent, tree_of}
+use Rattle.sx_named.specs.Named.{ElementStart}
 use Rattle.sx_build.specs.Asked.{Asked}
 use Rattle.sx_build.specs.Build.{Build, error_of}
 use Rattle.sx_machine.specs.declared.plans.Rule.{Rule}
@@ -20,6 +20,7 @@ use Rattle.sx_machine.specs.Run.{Ending, done, waits, stops, ending_with, Result
 use Rattle.sx_machine.specs.Meaning.{IsReady, is_copying_first, meaning_on}
 use Rattle.sx_machine.specs.Writer.{StandsFor}
 use Rattle.sx_machine.specs.Plan.{AreRulesOf, task_of, tasks}
+use Rattle.sx_names.specs.Numbering.{NameTable}
 
 -- whether a session goes on, where the result ends so
 abbrev pub state_of : Ending → State
@@ -88,7 +89,7 @@ pub record Builds (s : Session) (all : List Asked) (result : Result) (given : �
 
 -- The session is what this stylesheet has on an open tree, where there may be so many invocations, and so many built events
 -- were taken from it. Names are those that it was started with.
-pub record StandsOn (sheet : Sheet) (names : List (List ℕ × List ℕ)) (invocations : ℕ) (s : Session) (d : Document Begun) (given : ℕ) : Type 0 where
+pub record StandsOn (sheet : Sheet) (names : NameTable) (invocations : ℕ) (s : Session) (d : Document ElementStart) (given : ℕ) : Type 0 where
   pub ready : IsReady sheet names
   pub rules_are : AreRulesOf sheet.templates s.rules.list
   pub places_are : FindsLast s.rules
@@ -108,5 +109,5 @@ pub record Wrote (old new : Session) (more : List Asked) : Type 0 where
       → StandsFor new.writer (asked ++ more) false given × (new.state ≡ state_of (ending_with (error_of (asked ++ more)) waits))
 
 -- the session is what this stylesheet has after what has happened
-abbrev pub Stands : Sheet → List (List ℕ × List ℕ) → ℕ → Session → List (Happening Begun) → ℕ → Type 0
+abbrev pub Stands : Sheet → NameTable → ℕ → Session → List (TreeEvent ElementStart) → ℕ → Type 0
 Stands sheet names invocations s p given = StandsOn sheet names invocations s (tree_of p) given

@@ -1,6 +1,6 @@
 -- What the builder of a session was asked for.
 use Rattle.std.specs.Prelude.{◌≡◌, ℕ, Bool, List, [], ◌∷◌}
-use Rattle.sx_tree.specs.Named.{Attribute}
+use Rattle.sx_named.specs.Named.{Attribute}
 use Rattle.sx_build.specs.Asked as ask
 use Rattle.sx_build.specs.Asked.{Asked}
 use Rattle.sx_build.specs.Build.{error_of}
@@ -14,6 +14,6 @@ asked_attributes (a ∷ rest) = ask.has a ∷ asked_attributes rest
 
 -- the builder was asked for these, the error is theirs, and no attribute is left to be asked for
 pub record StandsFor (w : Writer) (asked : List Asked) (at_end : Bool) (given : ℕ) : Type 0 where
-  pub builds : builder.Stands w.builder asked at_end given
+  pub builds : builder.BuilderStands w.builder asked at_end given
   pub error_is : w.error ≡ error_of asked
   pub none_turned : w.turned ≡ []

@@ -5,8 +5,6 @@ mod plans;
 mod rule_table;
 mod session;
 mod streamability;
-#[cfg(test)]
-mod tests;
 mod writer;
 
 /// Laws over the definitions, each the contract of a function that does nothing.

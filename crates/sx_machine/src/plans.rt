@@ -5,6 +5,7 @@ ghost use Rattle.sx_machine.specs.Body.{Body, body_of, instr_in_front, written_o
 ghost use Rattle.sx_machine.specs.Plan.{still, looking, then_plan, plan_of, read_plan, pattern_name, IsRuleOf, AreRulesOf};
 ghost use Rattle.sx_machine.specs.Run.{gives};
 ghost use Rattle.sx_tree.specs.declared.events.Label.{Label as NameLabel};
+ghost use Rattle.sx_names.specs.Numbering.{NameTable};
 
 use sqlite_items::Items;
 use std::alloc::{AllocError, Global};
@@ -29,7 +30,7 @@ pub struct Rule {
 impl Plan {
     // The plan of an empty body.
     fn new(alloc: Global) -> Plan
-        ensures { (names : List (List ℕ × List ℕ)) → read_plan names result ≡ still (gives []) }
+        ensures { (names : NameTable) → read_plan names result ≡ still (gives []) }
     {
         Plan {
             before: Items::new(alloc),
@@ -39,7 +40,7 @@ impl Plan {
 
     // This is given behind what the plan has so far.
     fn push(&mut self, raw: Raw) -> Result<(), AllocError>
-        ensures { OnOk result ((names : List (List ℕ × List ℕ))
+        ensures { OnOk result ((names : NameTable)
             → read_plan names self.new ≡ then_plan (read_plan names self.old) (still (gives (asked_at names raw ∷ [])))) }
     {
         match &mut self.behind {
@@ -50,7 +51,7 @@ impl Plan {
 
     // The children are asked for, if they were not asked for before.
     fn look(&mut self, alloc: Global)
-        ensures { (names : List (List ℕ × List ℕ)) → read_plan names self.new ≡ then_plan (read_plan names self.old) (looking (gives []) (gives [])) }
+        ensures { (names : NameTable) → read_plan names self.new ≡ then_plan (read_plan names self.old) (looking (gives []) (gives [])) }
     {
         if self.behind.is_none() {
             self.behind = Some(Items::new(alloc));
@@ -60,7 +61,7 @@ impl Plan {
 
 #[cycle(planning)]
 fn plan_instrs(alloc: Global, instrs: &[Instr], plan: &mut Plan) -> Result<(), AllocError>
-    ensures { OnOk result ((names : List (List ℕ × List ℕ)) (left : ℕ)
+    ensures { OnOk result ((names : NameTable) (left : ℕ)
         → read_plan names plan.new ≡ then_plan (read_plan names plan.old) (plan_of left (written_out names (body_of instrs.now)))) }
 {
     for instr in instrs {
@@ -71,7 +72,7 @@ fn plan_instrs(alloc: Global, instrs: &[Instr], plan: &mut Plan) -> Result<(), A
 
 #[cycle(planning)]
 fn plan_instr(alloc: Global, instr: &Instr, plan: &mut Plan) -> Result<(), AllocError>
-    ensures { OnOk result ((names : List (List ℕ × List ℕ)) (left : ℕ) (rest : Body NameLabel)
+    ensures { OnOk result ((names : NameTable) (left : ℕ) (rest : Body NameLabel)
         → then_plan (read_plan names plan.new) (plan_of left (written_out names rest))
         ≡ then_plan (read_plan names plan.old) (plan_of left (written_out names (instr_in_front instr.now rest)))) }
 {

@@ -3,7 +3,7 @@ ghost use Rattle.std.specs.Prelude.{◌≡◌, ◌∷◌, [], ◌++◌, ℕ, Lis
 ghost use Rattle.sx_build.specs.Asked.{Asked, asked_at, all_asked_at};
 ghost use Rattle.sx_build.specs.Build.{Build};
 ghost use Rattle.sx_machine.specs.Writer.{StandsFor, asked_attributes};
-ghost use Rattle.sx_tree.specs.Named.{attributes_at};
+ghost use Rattle.sx_named.specs.Named.{attributes_at};
 
 use sqlite_items::Items;
 use std::alloc::{AllocError, Global};

@@ -2,6 +2,7 @@
 use Rattle.std.specs.Prelude.{◌≡◌, ℕ, ◌-◌, ◌<◌, ◌≤◌, List, [], ◌∷◌, length, map, reverse, take, drop, nat_eq, Option, Some, None, slice_index_or, string_bytes, if◌then◌else◌}
 use Rattle.sx_names.specs.Numbering.{IsDistinct}
 use Rattle.sx_names.specs.Inside.{text_at}
+use Rattle.sx_names.specs.Scope.{Declarations, ScopeBindings}
 use Rattle.sx_names.specs.declared.bindings.Binding.{Binding}
 
 -- the prefix and the URI of a binding
@@ -9,7 +10,7 @@ abbrev pub pair_of : List (List ℕ) → Binding → List ℕ × List ℕ
 pair_of prefixes b = (text_at prefixes b.prefix, string_bytes b.uri)
 
 -- the prefixes and URIs of bindings, the last first
-abbrev pub pairs_of : List (List ℕ) → List Binding → List (List ℕ × List ℕ)
+abbrev pub pairs_of : List (List ℕ) → List Binding → Declarations
 pairs_of prefixes bindings = map (pair_of prefixes) (reverse bindings)
 
 -- where bindings stand with the last first: the place, counted from the other end, of the first with this prefix's number
@@ -29,11 +30,11 @@ pub record AreBindings (prefixes : List (List ℕ)) (in_force : List (Option ℕ
   pub known : (n : ℕ) → slice_index_or in_force n None ≡ place_in_force (reverse bindings) n
 
 -- the declarations of each element, the innermost first, where those before a place stand around it
-abbrev pub elements_of : List ℕ → List (List ℕ × List ℕ) → List (List (List ℕ × List ℕ))
+abbrev pub elements_of : List ℕ → Declarations → ScopeBindings
 elements_of [] pairs = []
 elements_of (begin ∷ begins) pairs = take (length pairs - begin) pairs ∷ elements_of begins (drop (length pairs - begin) pairs)
 
 -- each declaration is that of an element
-abbrev pub AreElements : List ℕ → List (List ℕ × List ℕ) → Type 0
+abbrev pub AreElements : List ℕ → Declarations → Type 0
 AreElements [] pairs = pairs ≡ []
 AreElements (begin ∷ begins) pairs = (begin ≤ length pairs) × AreElements begins (drop (length pairs - begin) pairs)

@@ -1,7 +1,7 @@
 -- What the tables hold, as contracts see it.
 use Rattle.std.specs.Prelude.{ℕ, ◌<◌, List, [], ◌∷◌, length, map, slice_get, String, string_bytes, IfSome}
 use Rattle.std.specs.Option.{option_map_or}
-use Rattle.sx_names.specs.Numbering.{IsDistinct}
+use Rattle.sx_names.specs.Numbering.{IsDistinct, NameTable}
 use Rattle.sx_names.specs.declared.name_table.Parts.{Parts}
 
 -- the bytes of the texts: the empty text first, then the strings
@@ -17,7 +17,7 @@ abbrev pub name_of : List (List ℕ) → List (List ℕ) → Parts → List ℕ 
 name_of uris locals p = (text_at uris p.uri, text_at locals p.local)
 
 -- the names, each by its two texts
-abbrev pub names_of : List (List ℕ) → List (List ℕ) → List Parts → List (List ℕ × List ℕ)
+abbrev pub names_of : List (List ℕ) → List (List ℕ) → List Parts → NameTable
 names_of uris locals parts = map (name_of uris locals) parts
 
 -- both texts of a name are there

@@ -20,10 +20,14 @@ module _ {X : Type 0} where
   IsNumbered old x n new = ((slice_get old n ≡ Some x) × (new ≡ old))
       ⊎ (IsAbsent old x × (n ≡ length old) × (new ≡ old ++ x ∷ []))
 
+-- names by their numbers: the bytes of the namespace URI and of the local name of each, at the place that is its number
+abbrev pub NameTable : Type 0
+NameTable = List (List ℕ × List ℕ)
+
 -- the namespace URI of the name at a place, and no bytes past the last
-abbrev pub uri_at : List (List ℕ × List ℕ) → ℕ → List ℕ
+abbrev pub uri_at : NameTable → ℕ → List ℕ
 uri_at names n = option_map_or (λ name. name.0) (slice_get names n) []
 
 -- the local name of the name at a place, and no bytes past the last
-abbrev pub local_at : List (List ℕ × List ℕ) → ℕ → List ℕ
+abbrev pub local_at : NameTable → ℕ → List ℕ
 local_at names n = option_map_or (λ name. name.1) (slice_get names n) []

@@ -2,8 +2,16 @@
 use Rattle.std.specs.Prelude.{ℕ, List, [], ◌∷◌, Option, Some, None, bytes_eq, codes, if◌then◌else◌}
 use Rattle.std.specs.Option.{option_or}
 
+-- declarations: the bytes of a prefix, and those of the URI that it is bound to
+abbrev pub Declarations : Type 0
+Declarations = List (List ℕ × List ℕ)
+
+-- the declarations of each open element, the innermost element and the last declaration first
+abbrev pub ScopeBindings : Type 0
+ScopeBindings = List Declarations
+
 -- the URI of the first declaration of a prefix, if there is one
-abbrev pub bound_in : List (List ℕ × List ℕ) → List ℕ → Option (List ℕ)
+abbrev pub bound_in : Declarations → List ℕ → Option (List ℕ)
 bound_in [] prefix = None
 bound_in (declared ∷ rest) prefix = if bytes_eq declared.0 prefix then Some declared.1 else bound_in rest prefix
 
@@ -16,11 +24,11 @@ bound_at_first prefix =
 
 -- the URI to which a prefix is bound in the innermost of these elements, each with its declarations, the innermost element
 -- and the last declaration first: its own declaration counts, or else what is bound around it
-abbrev pub bound : List (List (List ℕ × List ℕ)) → List ℕ → Option (List ℕ)
+abbrev pub bound : ScopeBindings → List ℕ → Option (List ℕ)
 bound [] prefix = bound_at_first prefix
 bound (declarations ∷ around) prefix = option_or (bound_in declarations prefix) (bound around prefix)
 
 -- a declaration in front of those of the innermost element
-abbrev pub declared_in : List ℕ → List ℕ → List (List (List ℕ × List ℕ)) → List (List (List ℕ × List ℕ))
+abbrev pub declared_in : List ℕ → List ℕ → ScopeBindings → ScopeBindings
 declared_in prefix uri [] = []
 declared_in prefix uri (declarations ∷ around) = ((prefix, uri) ∷ declarations) ∷ around

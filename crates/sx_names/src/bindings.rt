@@ -28,10 +28,10 @@ pub struct Bindings {
 }
 
 impl Model for Bindings {
-    ghost use Rattle.std.specs.Prelude.{ℕ, List};
     ghost use Rattle.sx_names.specs.Bindings.{pairs_of, AreBindings};
+    ghost use Rattle.sx_names.specs.Scope.{Declarations};
 
-    ghost Value = { List (List ℕ × List ℕ) };
+    ghost Value = { Declarations };
 
     ghost view = { λ b. pairs_of b.prefixes b.bindings.items };
 

@@ -5,8 +5,6 @@
 mod bindings;
 mod name_table;
 mod scope;
-#[cfg(test)]
-mod tests;
 mod text_table;
 
 #[doc(hidden)]

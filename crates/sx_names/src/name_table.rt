@@ -27,10 +27,10 @@ pub struct Names {
 }
 
 impl Model for Names {
-    ghost use Rattle.std.specs.Prelude.{ℕ, List};
     ghost use Rattle.sx_names.specs.Inside.{names_of, AreNames};
+    ghost use Rattle.sx_names.specs.Numbering.{NameTable};
 
-    ghost Value = { List (List ℕ × List ℕ) };
+    ghost Value = { NameTable };
 
     ghost view = { λ n. names_of n.uris n.locals n.parts.keys };
 

@@ -20,10 +20,11 @@ pub struct Scope {
 }
 
 impl Model for Scope {
-    ghost use Rattle.std.specs.Prelude.{ℕ, List, reverse};
+    ghost use Rattle.std.specs.Prelude.{reverse};
     ghost use Rattle.sx_names.specs.Bindings.{elements_of, AreElements};
+    ghost use Rattle.sx_names.specs.Scope.{ScopeBindings};
 
-    ghost Value = { List (List (List ℕ × List ℕ)) };
+    ghost Value = { ScopeBindings };
 
     ghost view = { λ s. elements_of (reverse s.begins.items) s.bindings };
 

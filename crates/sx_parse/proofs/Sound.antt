@@ -123,8 +123,8 @@ Sound (body bs l s) =
     (in_pattern s ≡ false) × (floor s ≤ 1) × BindingsFit bs × (value_ends_in_root bs && begins_step l ≡ false) × (returns (binder_of bs) l ≡ true) × Sound s
 
 -- an operand fits wherever it reaches
-abbrev pub Stands : Bool → Tree → Type 0
-Stands p t = (n : ℕ) → reaches p n t ≡ true → Fits p n t
+abbrev pub StandsAt : Bool → Tree → Type 0
+StandsAt p t = (n : ℕ) → reaches p n t ≡ true → Fits p n t
 
 -- what was read is the front of a derivation
 abbrev pub IsSound : State → Type 0
@@ -136,7 +136,7 @@ IsSound (dollar s) = (in_pattern s ≡ false) × Sound s
 IsSound (axis pre s) = PrefixFits (in_pattern s) pre × Sound s
 IsSound (kind pre k p s) = PrefixFits (in_pattern s) pre × Sound s
 IsSound (kind_name pre k p w q s) = PrefixFits (in_pattern s) pre × (takes_name k w ≡ true) × Sound s
-IsSound (have t s) = Stands (in_pattern s) t × Fits (in_pattern s) (floor s) t × (ends_in_root t ≡ false) × Sound s
+IsSound (have t s) = StandsAt (in_pattern s) t × Fits (in_pattern s) (floor s) t × (ends_in_root t ≡ false) × Sound s
 IsSound (comma_bound bs s) = (in_pattern s ≡ false) × (floor s ≤ 1) × BindingsFit bs × Sound s
 IsSound (binder_dollar g s) = (in_pattern s ≡ false) × (floor s ≤ 1) × GivenFits g × Sound s
 IsSound (binder_name g w r s) = (in_pattern s ≡ false) × (floor s ≤ 1) × GivenFits g × Sound s
@@ -425,7 +425,7 @@ operate_goes s t l o r e a h j =
       simp append_assoc,
     )))
 
-follow_operator_goes : (s : Stack) (t : Tree) (l : Lexeme) (o : Operator) → operator_of l ≡ Some o → Stands (in_pattern s) t →
+follow_operator_goes : (s : Stack) (t : Tree) (l : Lexeme) (o : Operator) → operator_of l ≡ Some o → StandsAt (in_pattern s) t →
     Fits (in_pattern s) (floor s) t →
     ends_in_root t && begins_step l ≡ false → Sound s → Goes (flag s) (stack_tokens s ++ tokens t) l (follow_operator t s l o)
 follow_operator_goes s t l o e f g h w =
@@ -455,7 +455,7 @@ cast_goes s t k p r e h j =
 reaches_same : (p q : Bool) (n : ℕ) (t : Tree) → p ≡ q → reaches q n t ≡ true → reaches p n t ≡ true
 reaches_same p q n t e f = rw e f
 
-follow_casting_goes : (s : Stack) (t : Tree) (k : Casting) (p : ℕ) → Stands (in_pattern s) t → Fits (in_pattern s) (floor s) t →
+follow_casting_goes : (s : Stack) (t : Tree) (k : Casting) (p : ℕ) → StandsAt (in_pattern s) t → Fits (in_pattern s) (floor s) t →
     ends_in_root t ≡ false → Sound s →
     Goes (flag s) (stack_tokens s ++ tokens t) (lexeme.Name (word.Casting k) p) (follow_name t s (word.Casting k) p)
 follow_casting_goes s t k p f g h w =
@@ -510,12 +510,12 @@ follow_comma_goes s t f w =
     (λ e. goes_joined s t 0 r (lexeme.Mark mark.Comma) (comma_under r.operand r.under) j
     (comma_goes r.under r.operand (fits_joined s t 0 r j) (j.place ∙ e) j.is_sound))
 
-question_goes : (s : Stack) (t : Tree) → Stands (in_pattern s) t → Fits (in_pattern s) (floor s) t → Sound s →
+question_goes : (s : Stack) (t : Tree) → StandsAt (in_pattern s) t → Fits (in_pattern s) (floor s) t → Sound s →
     Goes (flag s) (stack_tokens s ++ tokens t) (lexeme.Mark mark.Question) (question t s)
 question_goes s (cast e k i j v m false) f g w = ((λ n h. f n h, g, refl, w), refl, simp append_assoc)
 question_goes s t f g w = tt
 
-follow_mark_goes : (s : Stack) (t : Tree) (m : Mark) → Stands (in_pattern s) t → Fits (in_pattern s) (floor s) t →
+follow_mark_goes : (s : Stack) (t : Tree) (m : Mark) → StandsAt (in_pattern s) t → Fits (in_pattern s) (floor s) t →
     ends_in_root t && begins_step (lexeme.Mark m) ≡ false → Sound s → Goes (flag s) (stack_tokens s ++ tokens t) (lexeme.Mark m) (follow_mark t s m)
 follow_mark_goes s t (mark.Operator o) f g h w = follow_operator_goes s t (lexeme.Mark (mark.Operator o)) o refl f g h w
 follow_mark_goes s t mark.Comma f g h w = follow_comma_goes s t g w
@@ -527,7 +527,7 @@ follow_mark_goes s t mark.OpenBracket f g h w =
 follow_mark_goes s t mark.Question f g h w = question_goes s t f g w
 follow_mark_goes s t m f g h w = tt
 
-follow_name_goes : (s : Stack) (t : Tree) (v : Word) (p : ℕ) → Stands (in_pattern s) t → Fits (in_pattern s) (floor s) t →
+follow_name_goes : (s : Stack) (t : Tree) (v : Word) (p : ℕ) → StandsAt (in_pattern s) t → Fits (in_pattern s) (floor s) t →
     ends_in_root t ≡ false → Sound s →
     Goes (flag s) (stack_tokens s ++ tokens t) (lexeme.Name v p) (follow_name t s v p)
 follow_name_goes s t (word.Operator o) p f g h w = follow_operator_goes s t (lexeme.Name (word.Operator o) p) o refl f g (rw h refl) w
@@ -537,7 +537,7 @@ follow_name_goes s t word.Return p f g h w = follow_return_goes s t (lexeme.Name
 follow_name_goes s t word.Satisfies p f g h w = follow_return_goes s t (lexeme.Name word.Satisfies p) g (rw h refl) w
 follow_name_goes s t v p f g h w = tt
 
-follow_goes : (s : Stack) (t : Tree) (l : Lexeme) → Stands (in_pattern s) t → Fits (in_pattern s) (floor s) t →
+follow_goes : (s : Stack) (t : Tree) (l : Lexeme) → StandsAt (in_pattern s) t → Fits (in_pattern s) (floor s) t →
     ends_in_root t && begins_step l ≡ false → Sound s →
     Goes (flag s) (stack_tokens s ++ tokens t) l (follow t s l)
 follow_goes s t (lexeme.Mark m) f g h w = follow_mark_goes s t m f g h w
@@ -666,7 +666,7 @@ if_goes true p ts l o u f g = f refl
 if_goes false p ts l o u f g = g refl
 
 -- `/` alone fits wherever it reaches
-root_stands : (p : Bool) → Stands p root
+root_stands : (p : Bool) → StandsAt p root
 root_stands true n e = (le_of n 14 (and_left (nat_le n 14) (nat_eq n 0) e), λ _. zero_of n (and_right (nat_le n 14) (nat_eq n 0) e))
 root_stands false n e = (le_of n 14 (and_left (nat_le n 14) true e), λ x. absurd cc)
 

@@ -1,7 +1,7 @@
 -- What can be wrong with a token in an expression that has a derivation.
 use Rattle.std.specs.Prelude.{ℕ, Bool, true, false, not, ◌&&◌, ◌==◌, nat_lt, List, [], ◌∷◌, slice_get, bytes_eq, codes, Option, Some, None, Result, Ok, Err, if◌then◌else◌}
 use Rattle.std.specs.Option.{option_map_or}
-use Rattle.sx_arguments.specs.Signature.{allows}
+use Rattle.sx_atoms.specs.Signature.{allows}
 use Rattle.sx_atoms.specs.declared.atoms.Atom.{Atom}
 use Rattle.sx_atoms.specs.declared.atoms.Atom.TheVariants as atom
 use Rattle.sx_atoms.specs.declared.atoms.AtomType.{AtomType}

@@ -32,8 +32,6 @@ mod steps;
 mod stops;
 pub mod template_laws;
 mod templates;
-#[cfg(test)]
-mod tests;
 mod value_templates;
 mod words;
 

@@ -7,8 +7,8 @@ use Rattle.sx_atoms.specs.declared.error_codes.Code.{Code}
 use Rattle.sx_desk.specs.Desk.{Seen, Rose, Reads, TookNext, bytes_of}
 use Rattle.sx_desk.specs.declared.desk.Failed.{Failed}
 use Rattle.sx_desk.specs.declared.desk.Out.TheVariants as out
-use Rattle.sx_events.specs.Faults.{is_limit}
-use Rattle.sx_events.specs.declared.faults.DocFault.{DocFault}
+use Rattle.sx_limits.specs.Faults.{is_limit}
+use Rattle.sx_limits.specs.declared.faults.DocFault.{DocFault}
 use Rattle.sx_reading.specs.Frame.{Sent, Sends}
 use Rattle.sx_reading.specs.Headline.{WrittenFor, OutcomeFor, IsMeaning, Grows, RiseTo, HasMark, Comes, IsCaused, Answers, Transforms, ToldEnd, TookWhole, status_of}
 use Rattle.sx_reading.specs.Turn.{is_end, ToldMid, Fed, Running, Stops, AfterFlush, AfterTurn}

@@ -2,8 +2,8 @@
 use Rattle.std.specs.Prelude.{ℕ, List, [], ◌∷◌, ◌++◌, codes, decimal}
 use Rattle.sx_atoms.specs.Codes.{name_of}
 use Rattle.sx_atoms.specs.declared.error_codes.Code.{Code}
-use Rattle.sx_events.specs.Faults as faults
-use Rattle.sx_events.specs.declared.faults.DocFault.{DocFault}
+use Rattle.sx_limits.specs.Faults as faults
+use Rattle.sx_limits.specs.declared.faults.DocFault.{DocFault}
 use Rattle.sx_reading.specs.declared.status.Input.{Input}
 use Rattle.sx_reading.specs.declared.status.Input.TheVariants as input
 use Rattle.sx_reading.specs.declared.status.Status.{Status}

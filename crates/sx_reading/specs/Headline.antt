@@ -3,8 +3,8 @@ use Rattle.std.specs.Prelude.{◌≡◌, ◌≢◌, ◌⊎◌, ◌↔◌, ℕ, s
 use Rattle.sx_atoms.specs.declared.error_codes.Code.{Code}
 use Rattle.sx_desk.specs.Desk.{Seen, Rose, bytes_of}
 use Rattle.sx_desk.specs.declared.desk.Out.TheVariants as out
-use Rattle.sx_events.specs.Faults.{is_limit}
-use Rattle.sx_events.specs.declared.faults.DocFault.{DocFault}
+use Rattle.sx_limits.specs.Faults.{is_limit}
+use Rattle.sx_limits.specs.declared.faults.DocFault.{DocFault}
 use Rattle.sx_reading.specs.Frame.{Frame}
 use Rattle.sx_reading.specs.declared.status.Input.{Input}
 use Rattle.sx_reading.specs.declared.status.Status.{Status}

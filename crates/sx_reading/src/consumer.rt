@@ -5,7 +5,7 @@ ghost use Rattle.sx_reading.specs.Headline.{WrittenFor, OutcomeFor, IsMeaning, s
 use crate::{Input, Status};
 use std::alloc::AllocError;
 use sx_atoms::Code;
-use sx_events::DocFault;
+use sx_limits::DocFault;
 
 /// Where the bytes of a document end.
 #[derive(Clone, Copy, Debug, PartialEq, Eq)]

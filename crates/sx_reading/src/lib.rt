@@ -5,8 +5,6 @@ mod consumer;
 mod reading;
 mod send;
 mod status;
-#[cfg(test)]
-mod tests;
 
 pub use consumer::{Consumer, Outcome};
 pub use reading::transfer;

@@ -11,7 +11,7 @@ use crate::send::write_all;
 use crate::{Consumer, Input, Status};
 use std::alloc::{AllocError, Global};
 use sx_desk::{Desk, Out};
-use sx_events::{DocFault, Which};
+use sx_limits::{DocFault, Which};
 
 /// The most bytes that one read takes.
 const PIECE: usize = 65_536;

@@ -6,7 +6,7 @@ ghost use Rattle.sx_reading.specs.Answers.{number_of, diagnostic_of, static_line
 use arrayvec::ArrayVec;
 use itoa::Buffer;
 use sx_atoms::Code;
-use sx_events::DocFault;
+use sx_limits::DocFault;
 
 /// A line of the diagnostic output. The longest that a call answers has 55 bytes: `error document-UnboundPrefix line `, a
 /// number of twenty digits and a newline. That of any status has `limit-` besides.

@@ -3,7 +3,7 @@ use Rattle.std.proofs.Common.{◌≡◌, ℕ, List, [], ◌∷◌, ◌++◌, ref
 use Rattle.sx_kinds.specs.declared.constructs.ConstructKind.TheVariants as kind
 use Rattle.sx_kinds.specs.declared.constructs.Instr.{Instr}
 use Rattle.sx_kinds.specs.declared.sheets.Template.{Template}
-use Rattle.sx_tree.specs.Named.{Name}
+use Rattle.sx_named.specs.Named.{Name}
 use Rattle.sx_sheet.specs.Tokens.{Token, starts_template, starts_literal, starts_text, starts_apply, ends}
 use Rattle.sx_sheet.specs.Syntax.{Body, nil, literal, words, apply, TemplateSyntax, tokens_of_body, tokens_of_templates, said}
 use Rattle.sx_sheet.specs.Numbers.{Place, opened, passed, passed_all, past, next_construct, instrs_of, literal_with, text_with, apply_with, templates_of, template_of, past_template, past_templates, plain, AllBody, AllTemplates}

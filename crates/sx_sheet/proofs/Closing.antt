@@ -5,11 +5,12 @@ use Rattle.std.proofs.Math.Nat.{eq-or-lt_of_le}
 use Rattle.std.proofs.lemmas.List.{length-map, get_or_default, take_all}
 use Rattle.std.proofs.lemmas.List.Folds.{list_all-append}
 use Rattle.sx_tree.specs.declared.events.Event.TheVariants as event
-use Rattle.sx_tree.specs.Named.{named}
+use Rattle.sx_named.specs.Named.{named}
 use Rattle.sx_sheet.specs.declared.reading.LinedEvent.{LinedEvent}
 use Rattle.sx_sheet.specs.Tokens.{Token, starts_sheet, starts_mode, starts_template, starts_literal, starts_text, starts_apply, ends, says, closes, strange, LinedToken, token_of, is_blank, is_in_text, put_said, tokens_of, tokens_from}
 use Rattle.sx_sheet.proofs.Told.{are_both}
 use Rattle.sx_sheet.specs.Syntax.{Body, nil, literal, words, apply, TemplateSyntax, SheetSyntax, said, tokens_of_body, tokens_of_templates, tokens_of_sheet, IsThin, BeginsThin, BreaksBehind, BreaksOn, IsClosed, tokens_in, lines_in}
+use Rattle.sx_names.specs.Numbering.{NameTable}
 
 -- whether it is not the end of the input
 abbrev goes_on : Token → Bool
@@ -103,11 +104,11 @@ said_closed : (b : Bool) (o : Option Token) (line : ℕ) (rest : Bool → List L
 said_closed b None line rest c = c b
 said_closed b (Some t) line rest c = put_closed (is_blank t && not b) t line (rest (is_in_text b t)) (c (is_in_text b t))
 
-closed_from : (known : List (List ℕ × List ℕ)) (events : List LinedEvent) (line : ℕ) (b : Bool) → IsClosed (tokens_in (tokens_from known (events ++ record { event = event.Close; line = line } ∷ []) b))
+closed_from : (known : NameTable) (events : List LinedEvent) (line : ℕ) (b : Bool) → IsClosed (tokens_in (tokens_from known (events ++ record { event = event.Close; line = line } ∷ []) b))
 closed_from known [] line b = record { front = []; last = refl }
 closed_from known (e ∷ events) line b =
     said_closed b (token_of (named known e.event)) e.line (tokens_from known (events ++ record { event = event.Close; line = line } ∷ [])) (λ a. closed_from known events line a)
 
 -- where the last event closes, so does the last token
-pub closed_last : (known : List (List ℕ × List ℕ)) (events : List LinedEvent) (line : ℕ) → IsClosed (tokens_in (tokens_of known (events ++ record { event = event.Close; line = line } ∷ [])))
+pub closed_last : (known : NameTable) (events : List LinedEvent) (line : ℕ) → IsClosed (tokens_in (tokens_of known (events ++ record { event = event.Close; line = line } ∷ [])))
 closed_last known events line = closed_from known events line false

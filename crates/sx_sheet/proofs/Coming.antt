@@ -3,12 +3,12 @@ use Rattle.std.proofs.Common.{◌≡◌, ◌<◌, ◌≤◌, ℕ, zero, suc, ◌
 use Rattle.std.specs.Option.{option_map}
 use Rattle.std.proofs.lemmas.List.{drop_all}
 use Rattle.std.proofs.lemmas.Option.{slice_get_within, slice_get-get_or}
-use Rattle.sx_names.specs.Numbering.{KeepsPlaces}
+use Rattle.sx_names.specs.Numbering.{NameTable, KeepsPlaces}
 use Rattle.sx_tree.specs.declared.events.Label.{Label}
 use Rattle.sx_tree.specs.declared.events.Attr.{Attr}
 use Rattle.sx_tree.specs.declared.events.Event.{Event}
 use Rattle.sx_tree.specs.declared.events.Event.TheVariants as event
-use Rattle.sx_tree.specs.Named.{Name, name_at, attributes_at, named, IsNumbered, AreNumbered, IsKnown}
+use Rattle.sx_named.specs.Named.{Name, name_at, attributes_at, named, IsNumbered, AreNumbered, IsKnown}
 use Rattle.sx_sheet.specs.declared.reading.LinedEvent.{LinedEvent}
 use Rattle.sx_sheet.specs.declared.reader.Reader.{Reader}
 use Rattle.sx_sheet.specs.declared.tokens.Token as code
@@ -20,7 +20,7 @@ use Rattle.sx_sheet.proofs.Told.{are_both}
 use Rattle.sx_sheet.specs.Looking.{Gives, course, Comes, Results}
 
 abbrev Table : Type 0
-Table = List (List ℕ × List ℕ)
+Table = NameTable
 
 -- ---- events by a table that keeps its names
 

@@ -4,7 +4,7 @@ use Rattle.sx_kinds.specs.declared.constructs.ConstructKind.TheVariants as kind
 use Rattle.sx_kinds.specs.declared.constructs.Instr.{Instr}
 use Rattle.sx_kinds.specs.declared.sheets.OnNoMatch.{OnNoMatch}
 use Rattle.sx_kinds.specs.declared.sheets.Template.{Template}
-use Rattle.sx_tree.specs.Named.{Name}
+use Rattle.sx_named.specs.Named.{Name}
 use Rattle.sx_sheet.specs.declared.reader.Frame.{Frame}
 use Rattle.sx_sheet.specs.declared.stages.Stage.TheVariants as stage
 use Rattle.sx_sheet.specs.declared.stages.TemplateStart.{TemplateStart}

@@ -8,13 +8,14 @@ use Rattle.sx_kinds.specs.declared.sheets.OnNoMatch.{OnNoMatch}
 use Rattle.sx_kinds.specs.declared.sheets.OnNoMatch.TheVariants.{TextOnlyCopy, ShallowCopy}
 use Rattle.sx_kinds.specs.declared.sheets.Sheet.{Sheet}
 use Rattle.sx_kinds.specs.declared.sheets.Template.{Template}
-use Rattle.sx_tree.specs.Named.{Name, named}
+use Rattle.sx_named.specs.Named.{Name, named}
 use Rattle.sx_sheet.specs.declared.reading.LinedEvent.{LinedEvent}
 use Rattle.sx_sheet.specs.Tokens.{Token, LinedToken, token_of, is_blank, is_in_text, put_said, tokens_from, tokens_of}
 use Rattle.sx_sheet.specs.Syntax.{Body, nil, literal, words, apply, TemplateSyntax, said, tokens_in, lines_in}
-use Rattle.sx_sheet.specs.Numbers.{Place, opened, passed, passed_all, past, past_template, past_head, entered, instrs_of, templates_of, literal_with, text_with, apply_with, template_with, thin_mode, HasNumber, Reads, AllBody, AllTemplates}
+use Rattle.sx_sheet.specs.Numbers.{Place, opened, passed, passed_all, past, past_template, past_head, entered, instrs_of, templates_of, literal_with, text_with, apply_with, template_with, thin_mode, HasNumber, IsSheetOf, AllBody, AllTemplates}
 use Rattle.sx_sheet.proofs.Bodies.{all-weaker}
 use Rattle.sx_sheet.proofs.Told.{IsTold, token_told}
+use Rattle.sx_names.specs.Numbering.{NameTable}
 
 -- ---- its mode
 
@@ -30,7 +31,7 @@ said_told : (b : Bool) (o : Option Token) (line : ℕ) (rest : Bool → List Lin
 said_told b None line rest h k = k b
 said_told b (Some t) line rest h k = put_told (is_blank t && not b) t line (rest (is_in_text b t)) h (k (is_in_text b t))
 
-all_told : (known : List (List ℕ × List ℕ)) (events : List LinedEvent) (b : Bool) → AllTold (tokens_in (tokens_from known events b))
+all_told : (known : NameTable) (events : List LinedEvent) (b : Bool) → AllTold (tokens_in (tokens_from known events b))
 all_told known [] b = tt
 all_told known (e ∷ events) b = said_told b (token_of (named known e.event)) e.line (tokens_from known events) (token_told (named known e.event)) (λ c. all_told known events c)
 
@@ -41,7 +42,7 @@ two_modes m modes h k = elim h as (λ _. modes TextOnlyCopy ⊎ modes ShallowCop
 ]
 
 -- it has but one mode, which is unnamed, declared and streamable, and copies text only or shallowly
-pub thin_modes : (known : List (List ℕ × List ℕ)) (events : List LinedEvent) (names : List (List ℕ × List ℕ)) (sheet : Sheet) → Reads (tokens_of known events) names sheet →
+pub thin_modes : (known : NameTable) (events : List LinedEvent) (names : NameTable) (sheet : Sheet) → IsSheetOf (tokens_of known events) names sheet →
     (sheet.modes ≡ thin_mode TextOnlyCopy ∷ []) ⊎ (sheet.modes ≡ thin_mode ShallowCopy ∷ [])
 thin_modes known events names sheet r =
     let told = rw (sym r.written) at (all_told known events false) in
@@ -73,7 +74,7 @@ module _ (lines : List ℕ) (number : Name → ℕ) (count : ℕ) (P : List Inst
       built.templates _ _ (instrs_of lines number (entered p) t.body) (templates_of lines number (past_template p t) ts) h.0 (instrs_hold t.body (entered p) h.1) (templates_hold ts (past_template p t) h.2)
 
 -- what holds so holds of its templates, whose names all have numbers in the table
-pub names_known : (lined : List LinedToken) (names : List (List ℕ × List ℕ)) (sheet : Sheet) (P : List Instr → Type 0) (Q : List Template → Type 0) → Reads lined names sheet → AreBuilt (length names) P Q → Q sheet.templates
+pub names_known : (lined : List LinedToken) (names : NameTable) (sheet : Sheet) (P : List Instr → Type 0) (Q : List Template → Type 0) → IsSheetOf lined names sheet → AreBuilt (length names) P Q → Q sheet.templates
 names_known lined names sheet P Q r built =
     let all : AllTemplates (λ name. r.number name < length names) r.syntax.templates = all-weaker (HasNumber names r.number) (λ name. r.number name < length names) (λ name e. slice_get_within names (r.number name) (name.uri, name.local) e) r.syntax.templates r.known in
     subst Q (ap (λ (s : Sheet). s.templates) (sym r.says)) (templates_hold (lines_in lined) r.number (length names) P Q built r.syntax.templates past_head all)

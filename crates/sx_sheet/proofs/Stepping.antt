@@ -10,7 +10,8 @@ use Rattle.sx_sheet.specs.Numbers.{text_with}
 use Rattle.sx_sheet.specs.Machine.{State, say, with_instr, with_number, fixed, step_at}
 use Rattle.sx_sheet.specs.Looking.{Gives}
 use Rattle.sx_sheet.specs.Shown.{bare_name}
-use Rattle.sx_tree.specs.Named.{Name}
+use Rattle.sx_named.specs.Named.{Name}
+use Rattle.sx_names.specs.Numbering.{NameTable}
 
 pub says_some : (t : TemplateStart) (c : Construct) (s : State) (w : List ℕ) → (length w == 0) ≡ false → say t c s w ≡ Some (with_instr s (stage.TextEnd t) (text_with c w))
 says_some t c s [] e = absurd cc
@@ -20,17 +21,17 @@ says_some t c s (x ∷ w) e = refl
 looked_by : (look : Name → Option ℕ) (n : ℕ) (f : ℕ → State) (x : Name) → look x ≡ Some n → with_number (look x) f ≡ Some (f n)
 looked_by look n f x e = rw e refl
 
-absent : (names : List (List ℕ × List ℕ)) (n : ℕ) → slice_get names n ≡ None → n < length names → ⊥
+absent : (names : NameTable) (n : ℕ) → slice_get names n ≡ None → n < length names → ⊥
 absent [] n e h = omega (arith, h)
 absent (x ∷ xs) zero e h = absurd cc
 absent (x ∷ xs) (suc n) e h = absent xs n e (omega (arith, h))
 
-named_by : (names : List (List ℕ × List ℕ)) (n : ℕ) (o : Option (List ℕ × List ℕ)) → slice_get names n ≡ o → n < length names →
+named_by : (names : NameTable) (n : ℕ) (o : Option (List ℕ × List ℕ)) → slice_get names n ≡ o → n < length names →
     slice_get names n ≡ Some (option_map_or (λ x. x.0) o [], option_map_or (λ x. x.1) o [])
 named_by names n None e h = absurd (absent names n e h)
 named_by names n (Some x) e h = e
 
-pub looked_up : (names : List (List ℕ × List ℕ)) (look : Name → Option ℕ) (n : ℕ) (f : ℕ → State) → n < length names → Gives names look → with_number (look (bare_name names n)) f ≡ Some (f n)
+pub looked_up : (names : NameTable) (look : Name → Option ℕ) (n : ℕ) (f : ℕ → State) → n < length names → Gives names look → with_number (look (bare_name names n)) f ≡ Some (f n)
 looked_up names look n f h g = looked_by look n f (bare_name names n) (g n (bare_name names n) (named_by names n (slice_get names n) refl h))
 
 -- at a stage that expects but one token

@@ -3,22 +3,22 @@ use Rattle.std.proofs.Common.{◌≡◌, ◌<◌, ◌&&◌, ◌==◌, ◌⊎◌,
 use Rattle.std.specs.Option.{option_map_or}
 use Rattle.std.proofs.lemmas.Option.{slice_get_within}
 use Rattle.sx_kinds.specs.declared.sheets.OnNoMatch.TheVariants.{TextOnlyCopy, ShallowCopy}
-use Rattle.sx_names.specs.Numbering.{uri_at, local_at}
+use Rattle.sx_names.specs.Numbering.{NameTable, uri_at, local_at}
 use Rattle.sx_tree.specs.declared.events.Label.{Label}
 use Rattle.sx_tree.specs.declared.events.Attr.{Attr}
 use Rattle.sx_tree.specs.Tree as tree
-use Rattle.sx_tree.specs.Tree.{Happening}
-use Rattle.sx_tree.specs.Named.{Name, Attribute, Begun, name_at, attributes_at}
+use Rattle.sx_tree.specs.Tree.{TreeEvent}
+use Rattle.sx_named.specs.Named.{Name, Attribute, ElementStart, name_at, attributes_at}
 use Rattle.sx_sheet.specs.declared.tokens.Token as code
 use Rattle.sx_sheet.specs.declared.tokens.Token.TheVariants as token
 use Rattle.sx_sheet.specs.Tokens.{Token, starts_mode, starts_template, starts_literal, starts_text, starts_apply, strange, is_empty, is_plain_name, is_value, value_of, mode_token_for, template_token_for, if_bare, xslt_token, xslt_namespace, literal_token, start_token, token_of}
 use Rattle.sx_sheet.specs.Shown.{bare_name, shown, IsShown}
 
-pub length_at : (names : List (List ℕ × List ℕ)) (attrs : List Attr) → length (attributes_at names attrs) ≡ length attrs
+pub length_at : (names : NameTable) (attrs : List Attr) → length (attributes_at names attrs) ≡ length attrs
 length_at names [] = refl
 length_at names (a ∷ rest) = rw (length_at names rest) refl
 
-pub not_bare : (names : List (List ℕ × List ℕ)) (attrs : List Attr) (t : Token) → false ≡ (length attrs == 0) → strange ≡ if_bare (attributes_at names attrs) t
+pub not_bare : (names : NameTable) (attrs : List Attr) (t : Token) → false ≡ (length attrs == 0) → strange ≡ if_bare (attributes_at names attrs) t
 not_bare names [] t e = absurd cc
 not_bare names (a ∷ rest) t e = refl
 
@@ -68,10 +68,10 @@ literal_told name attributes =
     (λ e. let h = are_both (is_empty name.prefix) (is_plain_name name.local) e in bare_told attributes (starts_literal name) (empty name.prefix h.0, h.1))
     (λ e. tt)
 
-pub start_told : (b : Begun) → IsTold (start_token b)
+pub start_told : (b : ElementStart) → IsTold (start_token b)
 start_told b = either (bytes_eq b.name.uri xslt_namespace) _ _ (λ e. xslt_told b.name.local b.attributes) (λ e. literal_told b.name b.attributes)
 
-pub token_told : (h : Happening Begun) → IfSome (token_of h) IsTold
+pub token_told : (h : TreeEvent ElementStart) → IfSome (token_of h) IsTold
 token_told (tree.starts b) = start_told b
 token_told tree.ends = tt
 token_told (tree.says s) = tt
@@ -86,18 +86,18 @@ literal_by : (p u l : List ℕ) (attributes : List Attribute) → bytes_eq u xsl
 literal_by [] u l attributes e f g = rw e (rw g refl)
 literal_by (c ∷ p) u l attributes e f g = absurd cc
 
-pub literal_starts : (names : List (List ℕ × List ℕ)) (label : Label) (attributes : List Attribute) → bytes_eq (uri_at names label.number) xslt_namespace ≡ false → is_empty label.prefix ≡ true →
+pub literal_starts : (names : NameTable) (label : Label) (attributes : List Attribute) → bytes_eq (uri_at names label.number) xslt_namespace ≡ false → is_empty label.prefix ≡ true →
     is_plain_name (local_at names label.number) ≡ true →
     if_bare attributes (starts_literal (bare_name names label.number)) ≡ start_token (record { name = name_at names label; attributes = attributes; spaces = [] })
 literal_starts names label attributes e f g = literal_by label.prefix (uri_at names label.number) (local_at names label.number) attributes e f g
 
 -- a name that the table does not have is not plain
-has_by : (names : List (List ℕ × List ℕ)) (n : ℕ) (o : Option (List ℕ × List ℕ)) → slice_get names n ≡ o → is_plain_name (option_map_or (λ name. name.1) o []) ≡ true → n < length names
+has_by : (names : NameTable) (n : ℕ) (o : Option (List ℕ × List ℕ)) → slice_get names n ≡ o → is_plain_name (option_map_or (λ name. name.1) o []) ≡ true → n < length names
 has_by names n None e h = absurd cc
 has_by names n (Some x) e h = slice_get_within names n x e
 
 -- what tells is known
-pub known_by : (names : List (List ℕ × List ℕ)) (t : code.Token) → IsTold (shown names t) → IsShown names t
+pub known_by : (names : NameTable) (t : code.Token) → IsTold (shown names t) → IsShown names t
 known_by names token.StartsSheet h = tt
 known_by names (token.StartsMode m) h = tt
 known_by names (token.StartsTemplate name) h = tt
@@ -109,5 +109,5 @@ known_by names (token.Says s) h = tt
 known_by names token.Closes h = tt
 known_by names token.Strange h = tt
 
-pub known_start : (names : List (List ℕ × List ℕ)) (t : code.Token) (b : Begun) → shown names t ≡ start_token b → IsShown names t
+pub known_start : (names : NameTable) (t : code.Token) (b : ElementStart) → shown names t ≡ start_token b → IsShown names t
 known_start names t b e = known_by names t (rw e (start_told b))

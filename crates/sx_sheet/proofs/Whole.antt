@@ -2,13 +2,13 @@
 use Rattle.std.proofs.Common.{◌≡◌, ℕ, zero, suc, ◌+◌, Bool, true, false, ◌&&◌, List, [], ◌∷◌, take, slice_index_or, bytes_eq, Option, Some, None, Result, Ok, Err, refl, ap, sym, ◌∙◌, arith, cond, slice_get}
 use Rattle.std.specs.Option.{option_map, option_map_or}
 use Rattle.std.proofs.lemmas.Slice.Eq.{bytes_eq-Decides}
-use Rattle.sx_names.specs.Numbering.{IsDistinct}
-use Rattle.sx_tree.specs.Named.{Name}
+use Rattle.sx_names.specs.Numbering.{NameTable, IsDistinct}
+use Rattle.sx_named.specs.Named.{Name}
 use Rattle.sx_sheet.specs.declared.reader.Reader.{Reader}
 use Rattle.sx_sheet.specs.declared.reading.LinedEvent.{LinedEvent}
 use Rattle.sx_sheet.specs.Tokens.{Token, LinedToken, tokens_of}
 use Rattle.sx_sheet.specs.Syntax.{tokens_in, lines_in, BreaksBehind, BreaksOn}
-use Rattle.sx_sheet.specs.Numbers.{sheet_with, HasNumber, Reads}
+use Rattle.sx_sheet.specs.Numbers.{sheet_with, HasNumber, IsSheetOf}
 use Rattle.sx_sheet.specs.Machine.{State, is_last, start, state_of}
 use Rattle.sx_sheet.specs.Looking.{course, Gives, Results}
 use Rattle.sx_sheet.proofs.Parts.{Part, nothing, begun, moded, between, within, texting, texted, applied, ended, closed, shows, Good}
@@ -18,7 +18,7 @@ use Rattle.sx_sheet.proofs.Complete as completing
 use Rattle.sx_sheet.proofs.Told.{are_both}
 
 abbrev Names : Type 0
-Names = List (List ℕ × List ℕ)
+Names = NameTable
 
 -- ---- where a name stands
 
@@ -105,7 +105,7 @@ not_last : (lines : List ℕ) (names : Names) (r : State) (p : Part) → shows l
 not_last lines names r p e f = rw e f
 
 last_part : (lined : List LinedToken) (names : Names) (r : State) (p : Part) → Good (HasNumber names (place_in names)) p → shows (lines_in lined) (place_in names) p ≡ r → is_last r.stage ≡ true → part.tokens_of p ≡ tokens_in lined →
-    Reads lined names (sheet_with r.no_match r.templates r.place.constructs)
+    IsSheetOf lined names (sheet_with r.no_match r.templates r.place.constructs)
 last_part lined names r (closed m ts) g e f h = record {
   syntax = record { no_match = m; templates = ts };
   written = whole_again m ts ∙ h;
@@ -126,7 +126,7 @@ last_part lined names r (ended m ts) g e f h = let x = not_last (lines_in lined)
 by_course : (lines : List ℕ) (look : Name → Option ℕ) (tokens : List Token) (x : Result State ℕ) → x ≡ course lines look start 0 tokens → Outcome lines look start 0 tokens x
 by_course lines look tokens x e = rw e (outcome lines look tokens start 0)
 
-pub ok_reads : (known names : Names) (events : List LinedEvent) (r : Reader) → IsDistinct names → Results known names events (Ok r) → Reads (tokens_of known events) names (sheet_with r.no_match r.templates r.constructs)
+pub ok_reads : (known names : Names) (events : List LinedEvent) (r : Reader) → IsDistinct names → Results known names events (Ok r) → IsSheetOf (tokens_of known events) names (sheet_with r.no_match r.templates r.constructs)
 ok_reads known names events r d f =
     let lined : List LinedToken = tokens_of known events in
     let lines : List ℕ = lines_in lined in

@@ -1,15 +1,16 @@
 -- How a reader looks names up, and how far it comes.
 use Rattle.std.specs.Prelude.{◌≡◌, ℕ, Bool, suc, List, [], ◌∷◌, drop, slice_get, slice_index_or, Option, Some, None, Result, Ok, Err, if◌then◌else◌}
-use Rattle.sx_tree.specs.Named.{Name}
+use Rattle.sx_named.specs.Named.{Name}
 use Rattle.sx_sheet.specs.declared.reading.LinedEvent.{LinedEvent}
 use Rattle.sx_sheet.specs.declared.reader.Reader.{Reader}
 use Rattle.sx_sheet.specs.Tokens.{Token, tokens_of, tokens_from}
 use Rattle.sx_sheet.specs.Syntax.{tokens_in, lines_in}
 use Rattle.sx_sheet.specs.Numbers.{line_at}
 use Rattle.sx_sheet.specs.Machine.{State, state_of, step, is_last, start}
+use Rattle.sx_names.specs.Numbering.{NameTable}
 
 -- what is looked up has the number that the table gives it
-abbrev pub Gives : List (List ℕ × List ℕ) → (Name → Option ℕ) → Type 0
+abbrev pub Gives : NameTable → (Name → Option ℕ) → Type 0
 Gives names look = (n : ℕ) (name : Name) → slice_get names n ≡ Some (name.uri, name.local) → look name ≡ Some n
 
 module _ (lines : List ℕ) where
@@ -33,7 +34,7 @@ course_of tokens (Ok r) = Ok (state_of tokens r)
 course_of tokens (Err line) = Err line
 
 -- A reader comes so far with events: it reads on from so many tokens as it would from the first.
-pub record Comes (known names : List (List ℕ × List ℕ)) (events rest : List LinedEvent) (in_text : Bool) (reader : Reader) : Type 0 where
+pub record Comes (known names : NameTable) (events rest : List LinedEvent) (in_text : Bool) (reader : Reader) : Type 0 where
   pub tokens : ℕ
   pub lines : drop tokens (lines_in (tokens_of known events)) ≡ lines_in (tokens_from known rest in_text)
   pub course : (look : Name → Option ℕ) → Gives names look →
@@ -41,7 +42,7 @@ pub record Comes (known names : List (List ℕ × List ℕ)) (events rest : List
       ≡ course (lines_in (tokens_of known events)) look start 0 (tokens_in (tokens_of known events))
 
 -- What reading events comes to: the reader behind all their tokens, or the line at which it stopped.
-pub record Results (known names : List (List ℕ × List ℕ)) (events : List LinedEvent) (result : Result Reader ℕ) : Type 0 where
+pub record Results (known names : NameTable) (events : List LinedEvent) (result : Result Reader ℕ) : Type 0 where
   pub tokens : ℕ
   pub course : (look : Name → Option ℕ) → Gives names look →
       course_of tokens result ≡ course (lines_in (tokens_of known events)) look start 0 (tokens_in (tokens_of known events))

@@ -6,7 +6,7 @@ use Rattle.sx_kinds.specs.declared.constructs.Instr.{Instr}
 use Rattle.sx_kinds.specs.declared.sheets.OnNoMatch.{OnNoMatch}
 use Rattle.sx_kinds.specs.declared.sheets.OnNoMatch.TheVariants.{TextOnlyCopy}
 use Rattle.sx_kinds.specs.declared.sheets.Template.{Template}
-use Rattle.sx_tree.specs.Named.{Name}
+use Rattle.sx_named.specs.Named.{Name}
 use Rattle.sx_sheet.specs.declared.stages.Stage.{Stage}
 use Rattle.sx_sheet.specs.declared.stages.Stage.TheVariants as stage
 use Rattle.sx_sheet.specs.declared.stages.TemplateStart.{TemplateStart}

@@ -1,7 +1,7 @@
 -- The stylesheet that a syntax stands for: its constructs with their numbers and lines.
 use Rattle.std.specs.Prelude.{◌≡◌, ℕ, ◌+◌, true, List, [], ◌∷◌, slice_get, slice_index_or, Some, None}
 use Rattle.sx_tree.specs.declared.events.Label.{Label}
-use Rattle.sx_tree.specs.Named.{Name}
+use Rattle.sx_named.specs.Named.{Name}
 use Rattle.sx_kinds.specs.declared.constructs.Construct.{Construct}
 use Rattle.sx_kinds.specs.declared.constructs.ConstructKind.{ConstructKind}
 use Rattle.sx_kinds.specs.declared.constructs.ConstructKind.TheVariants as kind
@@ -15,6 +15,7 @@ use Rattle.sx_kinds.specs.declared.sheets.OnNoMatch.{OnNoMatch}
 use Rattle.sx_kinds.specs.declared.sheets.Sheet.{Sheet}
 use Rattle.sx_sheet.specs.Tokens.{Token, LinedToken}
 use Rattle.sx_sheet.specs.Syntax.{Body, nil, literal, words, apply, TemplateSyntax, SheetSyntax, said, tokens_of_sheet, tokens_in, lines_in}
+use Rattle.sx_names.specs.Numbering.{NameTable}
 
 -- ---- places
 
@@ -158,11 +159,11 @@ module _ (N : Name → Type 0) where
   AllTemplates (t ∷ ts) = N (plain t.name) × AllBody t.body × AllTemplates ts
 
 -- the table has the name at its number
-abbrev pub HasNumber : List (List ℕ × List ℕ) → (Name → ℕ) → Name → Type 0
+abbrev pub HasNumber : NameTable → (Name → ℕ) → Name → Type 0
 HasNumber names number name = slice_get names (number name) ≡ Some (name.uri, name.local)
 
 -- The stylesheet is that of a syntax whose tokens these are, and the table has the numbers of all its names.
-pub record Reads (lined : List LinedToken) (names : List (List ℕ × List ℕ)) (sheet : Sheet) : Type 0 where
+pub record IsSheetOf (lined : List LinedToken) (names : NameTable) (sheet : Sheet) : Type 0 where
   pub syntax : SheetSyntax
   pub written : tokens_of_sheet syntax ≡ tokens_in lined
   pub number : Name → ℕ

@@ -1,17 +1,17 @@
 -- What the tokens of a reader show.
 use Rattle.std.specs.Prelude.{ℕ, ◌<◌, List, [], length}
-use Rattle.sx_names.specs.Numbering.{uri_at, local_at}
-use Rattle.sx_tree.specs.Named.{Name}
+use Rattle.sx_names.specs.Numbering.{NameTable, uri_at, local_at}
+use Rattle.sx_named.specs.Named.{Name}
 use Rattle.sx_sheet.specs.declared.tokens.Token.{Token}
 use Rattle.sx_sheet.specs.declared.tokens.Token.TheVariants as token
 use Rattle.sx_sheet.specs.Tokens as tokens
 
 -- the name with this number by a table of names, without a prefix
-abbrev pub bare_name : List (List ℕ × List ℕ) → ℕ → Name
+abbrev pub bare_name : NameTable → ℕ → Name
 bare_name names n = record { prefix = []; uri = uri_at names n; local = local_at names n }
 
 -- what a token shows, by a table of names
-abbrev pub shown : List (List ℕ × List ℕ) → Token → tokens.Token
+abbrev pub shown : NameTable → Token → tokens.Token
 shown names token.StartsSheet = tokens.starts_sheet
 shown names (token.StartsMode m) = tokens.starts_mode m
 shown names (token.StartsTemplate name) = tokens.starts_template name.now
@@ -24,7 +24,7 @@ shown names token.Closes = tokens.closes
 shown names token.Strange = tokens.strange
 
 -- the table has the name of a literal element
-abbrev pub IsShown : List (List ℕ × List ℕ) → Token → Type 0
+abbrev pub IsShown : NameTable → Token → Type 0
 IsShown names token.StartsSheet = Unit {0}
 IsShown names (token.StartsMode m) = Unit {0}
 IsShown names (token.StartsTemplate name) = Unit {0}

@@ -1,7 +1,7 @@
 -- The syntax of thin stylesheets, and the tokens that it is written with.
 use Rattle.std.specs.Prelude.{◌≡◌, ◌<◌, ◌≤◌, ℕ, suc, List, [], ◌∷◌, ◌++◌, length, take, slice_index_or, map}
 use Rattle.sx_kinds.specs.declared.sheets.OnNoMatch.{OnNoMatch}
-use Rattle.sx_tree.specs.Named.{Name}
+use Rattle.sx_named.specs.Named.{Name}
 use Rattle.sx_sheet.specs.Tokens.{Token, starts_sheet, starts_mode, starts_template, starts_literal, starts_text, starts_apply, ends, says, closes, LinedToken}
 
 -- Instructions one behind another: a literal element with its content, a text, or an application of templates; then

@@ -5,9 +5,10 @@ use Rattle.sx_chars.specs.Names.{is_white_space}
 use Rattle.sx_kinds.specs.declared.sheets.OnNoMatch.{OnNoMatch}
 use Rattle.sx_kinds.specs.declared.sheets.OnNoMatch.TheVariants.{TextOnlyCopy, ShallowCopy}
 use Rattle.sx_tree.specs.Tree as tree
-use Rattle.sx_tree.specs.Tree.{Happening}
-use Rattle.sx_tree.specs.Named.{Name, Attribute, Begun, named, IsKnown}
+use Rattle.sx_tree.specs.Tree.{TreeEvent}
+use Rattle.sx_named.specs.Named.{Name, Attribute, ElementStart, named, IsKnown}
 use Rattle.sx_sheet.specs.declared.reading.LinedEvent.{LinedEvent}
+use Rattle.sx_names.specs.Numbering.{NameTable}
 
 -- What an event says: the start of a stylesheet, of its mode and what that does with nodes that no template matches, of a
 -- template and the name that it matches, of a literal result element, of `xsl:text`, or of `xsl:apply-templates`; the end of the
@@ -93,11 +94,11 @@ xslt_token local attributes =
 abbrev pub literal_token : Name → List Attribute → Token
 literal_token name attributes = if is_empty name.prefix && is_plain_name name.local then if_bare attributes (starts_literal name) else strange
 
-abbrev pub start_token : Begun → Token
+abbrev pub start_token : ElementStart → Token
 start_token b = if bytes_eq b.name.uri xslt_namespace then xslt_token b.name.local b.attributes else literal_token b.name b.attributes
 
 -- what an event says; a processing instruction says nothing
-abbrev pub token_of : Happening Begun → Option Token
+abbrev pub token_of : TreeEvent ElementStart → Option Token
 token_of (tree.starts b) = Some (start_token b)
 token_of tree.ends = Some ends
 token_of (tree.says s) = Some (says s)
@@ -146,15 +147,15 @@ put_said inside (Some t) line rest = put_token inside t line (rest (is_in_text i
 
 -- What events say in turn, by a table of names, without processing instructions, and without texts of white space outside
 -- `xsl:text` (XSLT 3.0, 4.3), where the content of an `xsl:text` may or may not stand at the front.
-abbrev pub tokens_from : List (List ℕ × List ℕ) → List LinedEvent → Bool → List LinedToken
+abbrev pub tokens_from : NameTable → List LinedEvent → Bool → List LinedToken
 tokens_from names [] inside = []
 tokens_from names (e ∷ es) inside = put_said inside (token_of (named names e.event)) e.line (tokens_from names es)
 
 -- what the events of a stylesheet say
-abbrev pub tokens_of : List (List ℕ × List ℕ) → List LinedEvent → List LinedToken
+abbrev pub tokens_of : NameTable → List LinedEvent → List LinedToken
 tokens_of names events = tokens_from names events false
 
 -- the table has the names in all events
-abbrev pub AreKnown : List (List ℕ × List ℕ) → List LinedEvent → Type 0
+abbrev pub AreKnown : NameTable → List LinedEvent → Type 0
 AreKnown names [] = Unit {0}
 AreKnown names (e ∷ es) = IsKnown names e.event × AreKnown names es

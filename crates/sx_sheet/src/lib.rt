@@ -6,8 +6,6 @@ mod reader;
 mod reading;
 mod running;
 mod stages;
-#[cfg(test)]
-mod tests;
 mod tokens;
 
 pub use reading::{LinedEvent, LinedEvents, StaticFault, read};

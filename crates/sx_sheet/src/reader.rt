@@ -1,7 +1,7 @@
 // A reader of thin stylesheets, token by token.
 ghost use Rattle.std.specs.Prelude.{◌≡◌, ◌+◌, ◌≤◌, ◌<◌, ◌^◌, List, ℕ, IfOk, IfSome, Option, option_map, reverse};
-ghost use Rattle.sx_tree.specs.Named.{Name};
-ghost use Rattle.sx_names.specs.Numbering.{KeepsPlaces};
+ghost use Rattle.sx_named.specs.Named.{Name};
+ghost use Rattle.sx_names.specs.Numbering.{NameTable, KeepsPlaces};
 ghost use Rattle.sx_sheet.specs.Looking.{Gives};
 ghost use Rattle.sx_sheet.specs.Machine as machine;
 ghost use Rattle.sx_sheet.specs.Machine.{state_of};
@@ -139,7 +139,7 @@ impl Reader {
 
     // A token at a stage that expects but one.
     fn fixed(self, token: Token<'_>) -> Option<Reader>
-        ensures step { (names : List (List ℕ × List ℕ)) (tokens : ℕ) → option_map (state_of (tokens + 1)) result ≡ machine.fixed self.stage (state_of tokens self) (shown names token.entry) }
+        ensures step { (names : NameTable) (tokens : ℕ) → option_map (state_of (tokens + 1)) result ≡ machine.fixed self.stage (state_of tokens self) (shown names token.entry) }
         ensures near { IfSome result (λ r. r.constructs ≤ self.constructs + 2) }
     {
         match (self.stage, token) {
@@ -281,7 +281,7 @@ impl Reader {
         line: u64,
     ) -> Result<Option<Reader>, AllocError>
         requires { self.constructs < 2 ^ 62 }
-        ensures step { IfOk result (λ r. (names : List (List ℕ × List ℕ)) (look : Name → Option ℕ) (tokens : ℕ) → IsShown names token.entry → Gives names look → option_map (state_of (tokens + 1)) r ≡ machine.inside look line template (state_of tokens self) (shown names token.entry)) }
+        ensures step { IfOk result (λ r. (names : NameTable) (look : Name → Option ℕ) (tokens : ℕ) → IsShown names token.entry → Gives names look → option_map (state_of (tokens + 1)) r ≡ machine.inside look line template (state_of tokens self) (shown names token.entry)) }
         ensures near { IfOk result (λ r. IfSome r (λ n. n.constructs ≤ self.constructs + 2)) }
     {
         match token {
@@ -336,7 +336,7 @@ impl Reader {
         construct: Construct,
         token: Token<'_>,
     ) -> Result<Option<Reader>, AllocError>
-        ensures step { IfOk result (λ r. (names : List (List ℕ × List ℕ)) (tokens : ℕ) → option_map (state_of (tokens + 1)) r ≡ machine.in_text template construct (state_of tokens self) (shown names token.entry)) }
+        ensures step { IfOk result (λ r. (names : NameTable) (tokens : ℕ) → option_map (state_of (tokens + 1)) r ≡ machine.in_text template construct (state_of tokens self) (shown names token.entry)) }
         ensures near { IfOk result (λ r. IfSome r (λ n. n.constructs ≤ self.constructs + 2)) }
     {
         match token {

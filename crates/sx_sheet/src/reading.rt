@@ -3,7 +3,7 @@ ghost use Rattle.std.specs.Prelude.{◌≡◌, ◌∷◌, [], IfOk, IfErr};
 ghost use Rattle.sx_atoms.specs.declared.error_codes.Code.TheVariants.{Xtse0010};
 ghost use Rattle.sx_names.specs.Numbering.{KeepsPlaces, IsDistinct};
 ghost use Rattle.sx_sheet.specs.Numbers as numbers;
-ghost use Rattle.sx_sheet.specs.Numbers.{Reads};
+ghost use Rattle.sx_sheet.specs.Numbers.{IsSheetOf};
 ghost use Rattle.sx_sheet.specs.Syntax.{BreaksOn};
 ghost use Rattle.sx_sheet.specs.Tokens.{tokens_of, AreKnown};
 
@@ -73,7 +73,7 @@ pub fn read(
 ) -> Result<Result<Sheet, StaticFault>, AllocError>
     ensures kept { KeepsPlaces names.old names.new }
     ensures distinct { IsDistinct names.new }
-    ensures sheet { IfOk result (λ answer. IfOk answer (λ sheet. AreKnown names.old events.now → Reads (tokens_of names.old events.now) names.new sheet)) }
+    ensures sheet { IfOk result (λ answer. IfOk answer (λ sheet. AreKnown names.old events.now → IsSheetOf (tokens_of names.old events.now) names.new sheet)) }
     ensures fault { IfOk result (λ answer. IfErr answer (λ f. f.code ≡ Xtse0010)) }
     ensures line { IfOk result (λ answer. IfErr answer (λ f. AreKnown names.old events.now → BreaksOn (tokens_of names.old events.now) f.line)) }
 {

@@ -2,8 +2,8 @@
 ghost use Rattle.std.specs.Prelude.{◌≡◌, ◌&&◌, ◌==◌, not, [], ◌<◌, ℕ, List, length, bytes_eq, Option, option_map, IfSome};
 ghost use Rattle.std.specs.List.{list_all};
 ghost use Rattle.sx_chars.specs.Names as chars;
-ghost use Rattle.sx_names.specs.Numbering.{uri_at, local_at};
-ghost use Rattle.sx_tree.specs.Named.{named, name_at, attributes_at};
+ghost use Rattle.sx_names.specs.Numbering.{NameTable, uri_at, local_at};
+ghost use Rattle.sx_named.specs.Named.{named, name_at, attributes_at};
 ghost use Rattle.sx_sheet.specs.Tokens as said;
 ghost use Rattle.sx_sheet.specs.Shown.{shown, IsShown};
 
@@ -98,7 +98,7 @@ fn is_value(value: Option<&str>, expected: &str) -> bool
 
 // Whether there are so many attributes.
 fn are(attrs: &[Attr], count: usize) -> bool
-    ensures { (names : List (List ℕ × List ℕ)) → result ≡ (length (attributes_at names attrs.now) == count) }
+    ensures { (names : NameTable) → result ≡ (length (attributes_at names attrs.now) == count) }
 {
     attrs.len() == count
 }
@@ -139,7 +139,7 @@ fn template_token<'a>(attrs: &'a [Attr], names: &Names) -> Token<'a>
 
 // A start without attributes.
 fn if_bare<'a>(attrs: &[Attr], token: Token<'a>) -> Token<'a>
-    ensures { (names : List (List ℕ × List ℕ)) → shown names result ≡ said.if_bare (attributes_at names attrs.now) (shown names token.entry) }
+    ensures { (names : NameTable) → shown names result ≡ said.if_bare (attributes_at names attrs.now) (shown names token.entry) }
 {
     if attrs.is_empty() {
         token
@@ -205,7 +205,7 @@ pub(crate) fn token_of<'a>(event: &'a Event, names: &Names) -> Option<Token<'a>>
 impl<'a> Token<'a> {
     // Whether it is a text of white space alone, which counts in `xsl:text` only (XSLT 3.0, 4.3).
     fn is_blank(self) -> bool
-        ensures { (names : List (List ℕ × List ℕ)) → result ≡ said.is_blank (shown names self.entry) }
+        ensures { (names : NameTable) → result ≡ said.is_blank (shown names self.entry) }
     {
         match self {
             Token::Says(text) => are_white_space(text.as_bytes()),
@@ -215,14 +215,14 @@ impl<'a> Token<'a> {
 
     /// Whether it does not count, where the content of an `xsl:text` may or may not stand in front of it.
     pub fn is_skipped(self, in_text: bool) -> bool
-        ensures { (names : List (List ℕ × List ℕ)) → result ≡ (said.is_blank (shown names self.entry) && not in_text) }
+        ensures { (names : NameTable) → result ≡ (said.is_blank (shown names self.entry) && not in_text) }
     {
         self.is_blank() && !in_text
     }
 
     /// Whether the content of an `xsl:text` may stand behind it, where it did or did not before.
     pub fn is_in_text(self, before: bool) -> bool
-        ensures { (names : List (List ℕ × List ℕ)) → result ≡ said.is_in_text before (shown names self.entry) }
+        ensures { (names : NameTable) → result ≡ said.is_in_text before (shown names self.entry) }
     {
         match self {
             Token::StartsText => true,

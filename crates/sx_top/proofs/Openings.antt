@@ -2,12 +2,12 @@
 use Rattle.std.proofs.Common.{◌≡◌, inl, inr, ℕ, ◌+◌, ◌<◌, ◌≤◌, [], length, Option, Some, None, ap, arith}
 use Rattle.sx_desk.specs.Desk.{Seen}
 use Rattle.sx_top.specs.Commands.{Runs}
-use Rattle.sx_events.specs.Limits.{stated}
+use Rattle.sx_limits.specs.Limits.{stated}
 use Rattle.sx_reading.specs.Headline.{nothing_written}
-use Rattle.sx_transform.specs.Run.{run_written, run_outcome}
-use Rattle.sx_transform.specs.Stylesheet.{sheet_outcome}
+use Rattle.sx_top.specs.Run.{run_written, run_outcome}
+use Rattle.sx_top.specs.Stylesheet.{sheet_outcome}
 use Rattle.sx_top.specs.Copy.{copy_written, copy_outcome}
-use Rattle.sx_top.specs.Words.{Asked, copies, runs}
+use Rattle.sx_top.specs.Words.{Requested, copies, runs}
 use Rattle.sx_reading.specs.declared.status.Status.{Status}
 use Rattle.sx_reading.specs.declared.status.Status.TheVariants as status
 use Rattle.sx_reading.proofs.Headlines.{opens_one}
@@ -19,7 +19,7 @@ two_at_most : (a b : ℕ) → b ≤ a + 1 → b ≤ a + 2
 two_at_most a b p = omega (arith, p)
 
 -- a call opens two files at most
-opens_two : (o : Option Asked) (old new : Seen) (s : Status) → Runs o old new s → length new.opened ≤ length old.opened + 2
+opens_two : (o : Option Requested) (old new : Seen) (s : Status) → Runs o old new s → length new.opened ≤ length old.opened + 2
 opens_two None old new s x = let e = x.1.count in omega (arith, e)
 opens_two (Some (copies d)) old new s x = two_at_most (length old.opened) (length new.opened) (opens_one copy_written copy_outcome d old new s x)
 opens_two (Some (runs n d)) old new s (inl (inl x)) = two_at_most (length old.opened) (length new.opened) (opens_one nothing_written sheet_outcome n old new s x.run)
@@ -29,14 +29,14 @@ opens_two (Some (runs n d)) old new s (inr x) = two_more (length old.opened) (le
     (opens_one (run_written x.sheet x.names stated) (run_outcome x.sheet x.names stated) d x.mid new s x.ran)
 
 -- from a desk that has opened none
-pub opens_few : (o : Option Asked) (old new : Seen) (s : Status) → Runs o old new s → old.opened ≡ [] → length new.opened ≤ 2
+pub opens_few : (o : Option Requested) (old new : Seen) (s : Status) → Runs o old new s → old.opened ≡ [] → length new.opened ≤ 2
 opens_few o old new s x e = let few = opens_two o old new s x in let none : length old.opened ≡ 0 = ap length e in omega (arith, few, none)
 
 some_more : (a b : ℕ) → b ≡ a + 1 → 0 < b
 some_more a b e = omega (arith, e)
 
 -- a call that succeeds opens some file
-pub opens_some : (o : Option Asked) (old new : Seen) (s : Status) → Runs o old new s → s ≡ status.Ok → 0 < length new.opened
+pub opens_some : (o : Option Requested) (old new : Seen) (s : Status) → Runs o old new s → s ≡ status.Ok → 0 < length new.opened
 opens_some None old new s x ok = absurd (usage s x.0 ok)
   where
     usage : (s : Status) → s ≡ status.Usage → s ≡ status.Ok → ⊥

@@ -9,22 +9,23 @@ use Rattle.sx_reading.specs.declared.status.Status.{Status}
 use Rattle.sx_reading.specs.declared.status.Status.TheVariants as status
 use Rattle.sx_reading.proofs.Diagnostics.{untouched_after}
 use Rattle.sx_reading.proofs.Headlines.{untouched_then}
-use Rattle.sx_events.specs.Limits.{stated}
-use Rattle.sx_events.specs.declared.limits.Limits.{Limits}
+use Rattle.sx_limits.specs.Limits.{stated}
+use Rattle.sx_limits.specs.declared.limits.Limits.{Limits}
 use Rattle.sx_kinds.specs.declared.sheets.Sheet.{Sheet}
 use Rattle.sx_machine.specs.Meaning.{IsReady}
 use Rattle.sx_reading.specs.Headline.{nothing_written, Transforms}
 use Rattle.sx_reading.specs.Program.{Headline}
-use Rattle.sx_transform.specs.Loading.{Loaded}
-use Rattle.sx_transform.specs.Run.{run_written, run_outcome}
-use Rattle.sx_transform.specs.Stylesheet.{sheet_outcome}
-use Rattle.sx_transform.proofs.Accepting.{accepted_ready}
+use Rattle.sx_top.specs.Loading.{Loaded}
+use Rattle.sx_top.specs.Run.{run_written, run_outcome}
+use Rattle.sx_top.specs.Stylesheet.{sheet_outcome}
+use Rattle.sx_top.proofs.Accepting.{accepted_ready}
 use Rattle.sx_top.specs.Copy.{copy_sheet, copy_written, copy_outcome}
 use Rattle.sx_top.specs.Commands.{Does, Runs, RunsSheet}
-use Rattle.sx_top.specs.Words.{Asked, copies, runs}
+use Rattle.sx_top.specs.Words.{Requested, copies, runs}
+use Rattle.sx_names.specs.Numbering.{NameTable}
 
 -- what touches no file and not the result leaves what a command does
-does_then : (a : Asked) (old mid new : Seen) (s : Status) → Does a old mid s → Untouched mid new → Does a old new s
+does_then : (a : Requested) (old mid new : Seen) (s : Status) → Does a old mid s → Untouched mid new → Does a old new s
 does_then (copies document) old mid new s done u = untouched_then copy_written copy_outcome document old mid new s done u
 does_then (runs sheet document) old mid new s (inl (inl x)) u = inl (inl (record { not_ok = x.not_ok; run = untouched_then nothing_written sheet_outcome sheet old mid new s x.run u }))
 does_then (runs sheet document) old mid new s (inl (inr x)) u = inl (inr (record {
@@ -45,21 +46,21 @@ does_then (runs sheet document) old mid new s (inr x) u = inr (record {
 })
 
 -- what the words ask for was done, and the line was sent
-pub runs_command : (o : Option Asked) (a : Asked) (line : List ℕ) (old done mid new : Seen) (s s' : Status) (r : Result (Unit {0}) Failed) → Some a ≡ o → mid ≡ done → s' ≡ s →
+pub runs_command : (o : Option Requested) (a : Requested) (line : List ℕ) (old done mid new : Seen) (s s' : Status) (r : Result (Unit {0}) Failed) → Some a ≡ o → mid ≡ done → s' ≡ s →
     Does a old done s → Sends out.Diagnostic line mid new r → Runs o old new s'
 runs_command o a line old done mid new s s' r is same_desk same_status does sends =
-    subst (λ (o : Option Asked). Runs o old new s') is
+    subst (λ (o : Option Requested). Runs o old new s') is
     (subst (λ (x : Status). Does a old new x) (sym same_status)
     (does_then a old done new s does (untouched_after line done new r (subst (λ (x : Seen). Sends out.Diagnostic line x new r) same_desk sends))))
 
 -- the words ask for nothing, and the line was sent
-pub runs_nothing : (o : Option Asked) (line : List ℕ) (old mid new : Seen) (s : Status) (r : Result (Unit {0}) Failed) → None ≡ o → mid ≡ old → s ≡ status.Usage →
+pub runs_nothing : (o : Option Requested) (line : List ℕ) (old mid new : Seen) (s : Status) (r : Result (Unit {0}) Failed) → None ≡ o → mid ≡ old → s ≡ status.Usage →
     Sends out.Diagnostic line mid new r → Runs o old new s
 runs_nothing o line old mid new s r is same_desk usage sends =
-    subst (λ (o : Option Asked). Runs o old new s) is (usage, untouched_after line old new r (subst (λ (x : Seen). Sends out.Diagnostic line x new r) same_desk sends))
+    subst (λ (o : Option Requested). Runs o old new s) is (usage, untouched_after line old new r (subst (λ (x : Seen). Sends out.Diagnostic line x new r) same_desk sends))
 
 -- a stylesheet that was loaded was run
-pub runs_loaded : (sheet_name document_name : List ℕ) (names : List (List ℕ × List ℕ)) (sheet : Sheet) (old mid new : Seen) (s : Status) → Loaded sheet_name old mid names sheet →
+pub runs_loaded : (sheet_name document_name : List ℕ) (names : NameTable) (sheet : Sheet) (old mid new : Seen) (s : Status) → Loaded sheet_name old mid names sheet →
     (IsReady sheet names → Headline (run_written sheet names stated) (run_outcome sheet names stated) document_name mid new s) → RunsSheet sheet_name document_name old new s
 runs_loaded sheet_name document_name names sheet old mid new s loaded ran = inr (record {
   mid = mid;
@@ -75,13 +76,13 @@ copy_ready : IsReady copy_sheet []
 copy_ready = record { mode = inr refl; streamable = refl; known = tt }
 
 -- a run of the stylesheet of a copy
-pub copies_by : (sheet : Sheet) (names : List (List ℕ × List ℕ)) (limits : Limits) (file : ℕ) (old new : Seen) (s : Status) → sheet ≡ copy_sheet → names ≡ [] → limits ≡ stated
+pub copies_by : (sheet : Sheet) (names : NameTable) (limits : Limits) (file : ℕ) (old new : Seen) (s : Status) → sheet ≡ copy_sheet → names ≡ [] → limits ≡ stated
     → (IsReady sheet names → Transforms (run_written sheet names limits) (run_outcome sheet names limits) file old new s) → Transforms copy_written copy_outcome file old new s
 copies_by sheet names limits file old new s sheet_is names_are limits_are ran =
     let ready : IsReady sheet names =
-    subst (λ (x : Sheet). IsReady x names) (sym sheet_is) (subst (λ (n : List (List ℕ × List ℕ)). IsReady copy_sheet n) (sym names_are) copy_ready) in
+    subst (λ (x : Sheet). IsReady x names) (sym sheet_is) (subst (λ (n : NameTable). IsReady copy_sheet n) (sym names_are) copy_ready) in
     subst (λ (l : Limits). Transforms (run_written copy_sheet [] l) (run_outcome copy_sheet [] l) file old new s) limits_are
-    (subst (λ (n : List (List ℕ × List ℕ)). Transforms (run_written copy_sheet n limits) (run_outcome copy_sheet n limits) file old new s) names_are
+    (subst (λ (n : NameTable). Transforms (run_written copy_sheet n limits) (run_outcome copy_sheet n limits) file old new s) names_are
     (subst (λ (x : Sheet). Transforms (run_written x names limits) (run_outcome x names limits) file old new s) sheet_is (ran ready)))
 
 -- what two calls leave as it is

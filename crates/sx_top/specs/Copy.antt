@@ -3,9 +3,9 @@ use Rattle.std.specs.Prelude.{List, [], ◌∷◌}
 use Rattle.sx_kinds.specs.declared.sheets.Sheet.{Sheet}
 use Rattle.sx_kinds.specs.declared.sheets.OnNoMatch.TheVariants.{ShallowCopy}
 use Rattle.sx_machine.specs.Meaning.{thin_mode}
-use Rattle.sx_events.specs.Limits.{stated}
+use Rattle.sx_limits.specs.Limits.{stated}
 use Rattle.sx_reading.specs.Headline.{WrittenFor, OutcomeFor}
-use Rattle.sx_transform.specs.Run.{run_written, run_outcome}
+use Rattle.sx_top.specs.Run.{run_written, run_outcome}
 
 -- the unnamed mode alone, which is streamable and copies what no template matches, and no template
 abbrev pub copy_sheet : Sheet

@@ -1,14 +1,17 @@
-//! The whole program as one call over a desk: words in, files read, the result written before each read, a status.
+//! The whole program as one call over a desk: words in, files read, the result written before each read, a status; and its
+//! parts, a stylesheet taken from its file and its run on a document.
 #![tactic(auto)]
 
+mod laws;
+mod loading;
 mod program;
-#[cfg(test)]
-mod tests;
-#[cfg(test)]
-mod tests_run;
-#[cfg(test)]
-mod tests_sizes;
+mod runner;
+mod stylesheet;
+mod transformation;
 mod words;
 
+pub use laws::growth;
+pub use loading::load;
 pub use program::top;
+pub use transformation::transform;
 pub use words::{Command, parse_words};

@@ -1,7 +1,7 @@
 // The whole program.
 ghost use Rattle.std.specs.Prelude.{◌≡◌, ◌<◌, ◌≤◌, ◌^◌, [], ◌∷◌, IsTrue, IfOk, length, map, string_bytes};
 ghost use Rattle.sx_desk.specs.declared.desk.Out.TheVariants as out;
-ghost use Rattle.sx_events.specs.Limits.{stated};
+ghost use Rattle.sx_limits.specs.Limits.{stated};
 ghost use Rattle.sx_kinds.specs.declared.sheets.OnNoMatch.TheVariants as unmatched;
 ghost use Rattle.sx_machine.specs.Meaning.{IsReady, thin_mode};
 ghost use Rattle.sx_reading.specs.Answers.{diagnostic_of};
@@ -10,10 +10,10 @@ ghost use Rattle.sx_reading.specs.Headline.{Transforms};
 ghost use Rattle.sx_reading.specs.Program.{Headline, IsQuiet, Says};
 ghost use Rattle.sx_top.specs.Commands.{Does, Runs, RunsSheet};
 ghost use Rattle.sx_top.specs.Copy.{copy_sheet, copy_written, copy_outcome};
-ghost use Rattle.sx_top.specs.Words.{asked, asked_of};
-ghost use Rattle.sx_transform.specs.Run.{run_written, run_outcome};
+ghost use Rattle.sx_top.specs.Words.{requested, requested_of};
+ghost use Rattle.sx_top.specs.Run.{run_written, run_outcome};
 
-use crate::{Command, parse_words};
+use crate::{Command, load, parse_words, transform};
 use sqlite_items::Items;
 use std::alloc::{AllocError, Global};
 use sx_desk::{Desk, Out};
@@ -21,7 +21,6 @@ use sx_events::Limits;
 use sx_kinds::{Mode, Modes, OnNoMatch, Sheet};
 use sx_names::Names;
 use sx_reading::{Status, write_all};
-use sx_transform::{load, transform};
 
 // The one mode of the stylesheet of a copy.
 fn copying_modes(alloc: Global) -> Result<Modes, AllocError>
@@ -110,7 +109,7 @@ fn run<D: Desk>(alloc: Global, sheet: &str, document: &str, desk: &mut D) -> Sta
 // Does what a command asks for.
 fn carry_out<D: Desk>(alloc: Global, command: Command<'_>, desk: &mut D) -> Status
     requires { length (D.seen desk.old).opened < 2 ^ 31 }
-    ensures does { Does (asked_of command.entry) (D.seen desk.old) (D.seen desk.new) result }
+    ensures does { Does (requested_of command.entry) (D.seen desk.old) (D.seen desk.new) result }
     ensures quiet { IsQuiet (D.seen desk.old) (D.seen desk.new) }
 {
     match command {
@@ -123,7 +122,7 @@ fn carry_out<D: Desk>(alloc: Global, command: Command<'_>, desk: &mut D) -> Stat
 /// writes one diagnostic line where the status is not `Ok`.
 pub fn top<D: Desk>(alloc: Global, words: &[String], desk: &mut D) -> Status
     requires { length (D.seen desk.old).opened < 2 ^ 31 }
-    ensures runs { Runs (asked (map string_bytes words.now)) (D.seen desk.old) (D.seen desk.new) result }
+    ensures runs { Runs (requested (map string_bytes words.now)) (D.seen desk.old) (D.seen desk.new) result }
     ensures says { Says (diagnostic_of result) (D.seen desk.old) (D.seen desk.new) }
 {
     let status = match parse_words(words) {

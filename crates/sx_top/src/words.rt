@@ -1,6 +1,6 @@
 // The words of the command line.
 ghost use Rattle.std.specs.Prelude.{◌≡◌, map, option_map, string_bytes};
-ghost use Rattle.sx_top.specs.Words.{asked_of, asked};
+ghost use Rattle.sx_top.specs.Words.{requested_of, requested};
 
 /// What the words ask for.
 #[derive(Clone, Copy, Debug)]
@@ -18,7 +18,7 @@ pub enum Command<'a> {
 
 /// The command that the words after the program's name give, or `None` where they are none that the program knows.
 pub fn parse_words(words: &[String]) -> Option<Command<'_>>
-    ensures { option_map asked_of result ≡ asked (map string_bytes words.now) }
+    ensures { option_map requested_of result ≡ requested (map string_bytes words.now) }
 {
     match words {
         [command, document] if command.as_str() == "copy" => Some(Command::Copy(document.as_str())),

@@ -1,6 +1,6 @@
 -- What an event does to the open tree and to its open elements.
 use Rattle.std.proofs.Common.{◌≡◌, Bool, true, false, cond, List, [], ◌∷◌, ◌++◌, refl, ap, sym, ◌∙◌}
-use Rattle.sx_tree.specs.Tree.{Happening, starts, Forest, none, text, instruction, element, Document, has_open, open_elements, has_element, begun, push_end, push_node, push, push_all, tree_of, empty_document}
+use Rattle.sx_tree.specs.Tree.{TreeEvent, starts, Forest, none, text, instruction, element, Document, has_open, open_elements, has_element, first_node, push_end, push_node, push, push_all, tree_of, empty_document}
 
 module _ {E : Type 0} where
   -- the innermost of open elements, which are not none
@@ -8,11 +8,11 @@ module _ {E : Type 0} where
   HasLast es = (front : List E) × (e : E) × (es ≡ front ++ e ∷ [])
 
   -- one after the other
-  pub push_all-append : (d : Document E) (p q : List (Happening E)) → push_all d (p ++ q) ≡ push_all (push_all d p) q
+  pub push_all-append : (d : Document E) (p q : List (TreeEvent E)) → push_all d (p ++ q) ≡ push_all (push_all d p) q
   push_all-append d [] q = refl
   push_all-append d (h ∷ p) q = push_all-append (push d h) p q
 
-  pub tree_of-snoc : (p : List (Happening E)) (h : Happening E) → tree_of (p ++ h ∷ []) ≡ push (tree_of p) h
+  pub tree_of-snoc : (p : List (TreeEvent E)) (h : TreeEvent E) → tree_of (p ++ h ∷ []) ≡ push (tree_of p) h
   tree_of-snoc p h = push_all-append empty_document p (h ∷ [])
 
   pub open-push_node : (f new : Forest E) → open_elements (push_node f new) ≡ open_elements f ++ open_elements new
@@ -87,7 +87,7 @@ module _ {E : Type 0} where
   element-push_node (element e true kids rest) new h = refl
   element-push_node (element e false kids rest) new h = refl
 
-  pub element-push_start : (f : Forest E) (e : E) → has_element (push_node f (begun (starts e))) ≡ true
+  pub element-push_start : (f : Forest E) (e : E) → has_element (push_node f (first_node (starts e))) ≡ true
   element-push_start none e = refl
   element-push_start (text s rest) e = element-push_start rest e
   element-push_start (instruction t c rest) e = element-push_start rest e

@@ -4,7 +4,7 @@ use Rattle.sx_tree.specs.declared.events.Label.{Label}
 use Rattle.sx_tree.specs.declared.events.Attr.{Attr}
 use Rattle.sx_tree.specs.declared.events.Event.{Event}
 use Rattle.sx_tree.specs.declared.events.Event.TheVariants as event
-use Rattle.sx_tree.specs.Tree.{Happening, starts, ends, says, instructs, closes, has_open, tree_of}
+use Rattle.sx_tree.specs.Tree.{TreeEvent, starts, ends, says, instructs, closes, has_open, tree_of}
 
 -- what is known of an element: its name and its attributes
 pub record Element : Type 0 where
@@ -12,20 +12,20 @@ pub record Element : Type 0 where
   pub attrs : List Attr
 
 -- what happens in the document; its namespace declarations are no part of its tree
-abbrev pub happening_of : Event → Happening Element
-happening_of (event.Start label attrs spaces) = starts (record { label = label; attrs = attrs })
-happening_of event.End = ends
-happening_of (event.Text s) = says s
-happening_of (event.Pi target content) = instructs target content
-happening_of event.Close = closes
+abbrev pub tree_event : Event → TreeEvent Element
+tree_event (event.Start label attrs spaces) = starts (record { label = label; attrs = attrs })
+tree_event event.End = ends
+tree_event (event.Text s) = says s
+tree_event (event.Pi target content) = instructs target content
+tree_event event.Close = closes
 
 -- what happens in turn
-abbrev pub happenings_of : List Event → List (Happening Element)
-happenings_of events = map happening_of events
+abbrev pub tree_events : List Event → List (TreeEvent Element)
+tree_events events = map tree_event events
 
 module _ {E : Type 0} where
   -- a text, and nothing else
-  abbrev pub is_text : Happening E → Bool
+  abbrev pub is_text : TreeEvent E → Bool
   is_text (starts e) = false
   is_text ends = false
   is_text (says s) = true
@@ -33,16 +33,16 @@ module _ {E : Type 0} where
   is_text closes = false
 
   -- whether the last of these is a text; where there is none, what is said of the one before
-  abbrev pub last_is_text : Bool → List (Happening E) → Bool
+  abbrev pub last_is_text : Bool → List (TreeEvent E) → Bool
   last_is_text before [] = before
   last_is_text before (h ∷ p) = last_is_text (is_text h) p
 
   -- whether the last that happened is a text
-  abbrev pub ends_in_text : List (Happening E) → Bool
+  abbrev pub ends_in_text : List (TreeEvent E) → Bool
   ends_in_text p = last_is_text false p
 
   -- An end has an open element, a text has characters and is not behind a text, and no element is open at the close.
-  abbrev pub IsAllowed : List (Happening E) → Happening E → Type 0
+  abbrev pub IsAllowed : List (TreeEvent E) → TreeEvent E → Type 0
   IsAllowed p (starts e) = Unit {0}
   IsAllowed p ends = has_open (tree_of p).content ≡ true
   IsAllowed p (says s) = (s ≢ []) × (ends_in_text p ≡ false)
@@ -50,6 +50,6 @@ module _ {E : Type 0} where
   IsAllowed p closes = has_open (tree_of p).content ≡ false
 
   -- this may happen next: nothing follows the close, and each happening where it is allowed
-  pub record MayFollow (p : List (Happening E)) (h : Happening E) : Type 0 where
+  pub record MayFollow (p : List (TreeEvent E)) (h : TreeEvent E) : Type 0 where
     pub not_closed : (tree_of p).is_open ≡ true
     pub allowed : IsAllowed p h

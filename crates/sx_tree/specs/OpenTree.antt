@@ -1,7 +1,7 @@
 -- What a contract sees of an open tree, and how many nodes a tree has.
 use Rattle.std.specs.Prelude.{ℕ, ◌+◌, Bool, true, false, ◌||◌, List, length}
 use Rattle.sx_tree.specs.declared.events.Event.{Event}
-use Rattle.sx_tree.specs.Events.{Element, happenings_of}
+use Rattle.sx_tree.specs.Events.{Element, tree_events}
 use Rattle.sx_tree.specs.Tree.{Forest, none, text, instruction, element, Document, has_open, tree_of}
 
 -- the greatest number of nodes, and the events that made the tree
@@ -15,11 +15,11 @@ pub record NodeTable : Type 0 where
 
 -- the tree of the events
 abbrev pub tree : OpenTree → Document Element
-tree t = tree_of (happenings_of t.events)
+tree t = tree_of (tree_events t.events)
 
 -- the closed tree of the events
 abbrev pub closed_tree : NodeTable → Document Element
-closed_tree t = tree_of (happenings_of t.events)
+closed_tree t = tree_of (tree_events t.events)
 
 -- whether the document node or an element is open
 abbrev pub has_open_node : {E : Type 0} → Document E → Bool

@@ -3,12 +3,12 @@ use Rattle.std.specs.Prelude.{ℕ, Bool, true, false, List, [], ◌∷◌, if◌
 
 -- What happens in a document, where E says what is known of an element at its start: an element starts, the innermost
 -- open one ends, a text, a processing instruction with its target and content, and the good end of the input.
-pub data Happening (E : Type 0) : Type 0 where
-  starts : E → Happening E
-  ends : Happening E
-  says : List ℕ → Happening E
-  instructs : List ℕ → List ℕ → Happening E
-  closes : Happening E
+pub data TreeEvent (E : Type 0) : Type 0 where
+  starts : E → TreeEvent E
+  ends : TreeEvent E
+  says : List ℕ → TreeEvent E
+  instructs : List ℕ → List ℕ → TreeEvent E
+  closes : TreeEvent E
 
 -- Nodes beside each other: a text, a processing instruction, or an element with what is known of it, whether it is
 -- open, and its children; then those that follow. What follows an open element means nothing.
@@ -47,12 +47,12 @@ has_element (instruction t c rest) = has_element rest
 has_element (element e is_open kids rest) = true
 
 -- the node that begins
-abbrev pub begun : {E : Type 0} → Happening E → Forest E
-begun (starts e) = element e true none none
-begun ends = none
-begun (says s) = text s none
-begun (instructs t c) = instruction t c none
-begun closes = none
+abbrev pub first_node : {E : Type 0} → TreeEvent E → Forest E
+first_node (starts e) = element e true none none
+first_node ends = none
+first_node (says s) = text s none
+first_node (instructs t c) = instruction t c none
+first_node closes = none
 
 -- the innermost open element ends
 abbrev pub push_end : {E : Type 0} → Forest E → Forest E
@@ -71,21 +71,21 @@ push_node (element e true kids rest) node = element e true (push_node kids node)
 push_node (element e false kids rest) node = element e false kids (push_node rest node)
 
 -- the document after what happens next
-abbrev pub push : {E : Type 0} → Document E → Happening E → Document E
+abbrev pub push : {E : Type 0} → Document E → TreeEvent E → Document E
 push d ends = record { content = push_end d.content; is_open = d.is_open }
 push d closes = record { content = d.content; is_open = false }
-push d (starts e) = record { content = push_node d.content (begun (starts e)); is_open = d.is_open }
-push d (says s) = record { content = push_node d.content (begun (says s)); is_open = d.is_open }
-push d (instructs t c) = record { content = push_node d.content (begun (instructs t c)); is_open = d.is_open }
+push d (starts e) = record { content = push_node d.content (first_node (starts e)); is_open = d.is_open }
+push d (says s) = record { content = push_node d.content (first_node (says s)); is_open = d.is_open }
+push d (instructs t c) = record { content = push_node d.content (first_node (instructs t c)); is_open = d.is_open }
 
 -- the document of which nothing has come
 abbrev pub empty_document : {E : Type 0} → Document E
 empty_document = record { content = none; is_open = true }
 
-abbrev pub push_all : {E : Type 0} → Document E → List (Happening E) → Document E
+abbrev pub push_all : {E : Type 0} → Document E → List (TreeEvent E) → Document E
 push_all d [] = d
 push_all d (h ∷ hs) = push_all (push d h) hs
 
 -- the document of all that has happened
-abbrev pub tree_of : {E : Type 0} → List (Happening E) → Document E
+abbrev pub tree_of : {E : Type 0} → List (TreeEvent E) → Document E
 tree_of p = push_all empty_document p

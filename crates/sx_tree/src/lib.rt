@@ -5,8 +5,6 @@ mod ancestors;
 mod events;
 mod open_tree;
 mod steps;
-#[cfg(test)]
-mod tests;
 mod text;
 
 pub use ancestors::{Leaf, Spine, SpineItem};

@@ -1,6 +1,6 @@
 // A tree that grows by events, and the tree that no event changes any more.
 ghost use Rattle.std.specs.Prelude.{◌≡◌, ◌<◌, ◌+◌, ◌-◌, ◌^◌, ◌↔◌, min, false, [], ◌∷◌, ◌++◌, IsOk, IsErr, IfOk, IfErr, OnOk, OnErr};
-ghost use Rattle.sx_tree.specs.Events.{Element, MayFollow, happening_of, happenings_of};
+ghost use Rattle.sx_tree.specs.Events.{Element, MayFollow, tree_event, tree_events};
 ghost use Rattle.sx_tree.specs.OpenTree.{tree, closed_tree, has_open_node, node_count, document_count};
 ghost use Rattle.sx_tree.specs.Tree as spec;
 
@@ -51,7 +51,7 @@ impl Model for NodeTable {
 
 // The number of nodes that an event begins, or the greatest u64.
 fn begun_nodes(event: &Event) -> u64
-    ensures { result ≡ min (node_count (spec.begun (happening_of event.now))) (2 ^ 64 - 1) }
+    ensures { result ≡ min (node_count (spec.begun (tree_event event.now))) (2 ^ 64 - 1) }
 {
     match event {
         Event::Start { attrs, .. } => (attrs.len() as u64).saturating_add(1),
@@ -64,7 +64,7 @@ fn begun_nodes(event: &Event) -> u64
 
 // Whether the document node is open after an event.
 fn stays_open(is_open: bool, event: &Event) -> bool
-    ensures { (d : spec.Document Element) → is_open ≡ d.is_open → result ≡ (spec.push d (happening_of event.now)).is_open }
+    ensures { (d : spec.Document Element) → is_open ≡ d.is_open → result ≡ (spec.push d (tree_event event.now)).is_open }
 {
     match event {
         Event::Close => false,
@@ -95,11 +95,11 @@ impl OpenTree {
     /// Adds what an event says, which may follow those before. `Full` comes exactly where the tree would
     /// then have more nodes than its limit; after it, as after an `AllocError`, nothing has changed.
     pub fn push(&mut self, event: &Event) -> Result<Result<(), Full>, AllocError>
-        requires { MayFollow (happenings_of self.old.events) (happening_of event.now) }
+        requires { MayFollow (tree_events self.old.events) (tree_event event.now) }
         ensures limit { self.new.limit ≡ self.old.limit }
         ensures events { IfOk result (λ answer. OnOk answer (self.new.events ≡ self.old.events ++ event.now ∷ [])) }
-        ensures ok { IfOk result (λ answer. OnOk answer (tree self.new ≡ spec.push (tree self.old) (happening_of event.now))) }
-        ensures exactly { IfOk result (λ answer. IsErr answer ↔ (self.old.limit < document_count (spec.push (tree self.old) (happening_of event.now)))) }
+        ensures ok { IfOk result (λ answer. OnOk answer (tree self.new ≡ spec.push (tree self.old) (tree_event event.now))) }
+        ensures exactly { IfOk result (λ answer. IsErr answer ↔ (self.old.limit < document_count (spec.push (tree self.old) (tree_event event.now)))) }
         ensures full { IfOk result (λ answer. OnErr answer (self.new ≡ self.old)) }
         ensures err { OnErr result (self.new ≡ self.old) }
     {

@@ -9,11 +9,7 @@ pub mod laws;
 mod parts;
 mod paths;
 mod places;
-#[cfg(test)]
-mod postfix;
 mod settling;
-#[cfg(test)]
-mod tests;
 mod typing;
 
 pub use settling::settle;

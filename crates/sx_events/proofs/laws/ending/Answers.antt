@@ -1,8 +1,8 @@
 use Rattle.std.proofs.Common.{◌≡◌, ◌≢◌, Option, Some, None, is_some, true, false, inl, inr, refl, ap}
-use Rattle.sx_tree.specs.Named.{Begun}
+use Rattle.sx_named.specs.Named.{ElementStart}
 use Rattle.sx_tree.specs.Tree.{Document}
 use Rattle.sx_events.specs.Course.{break_of}
-use Rattle.sx_events.specs.declared.faults.DocFault.{DocFault}
+use Rattle.sx_limits.specs.declared.faults.DocFault.{DocFault}
 use Rattle.sx_events.proofs.Nests.{open_where, closed_where, none_open_where, broken_beyond}
 use Rattle.sx_events.proofs.laws.ending.Goals as goal
 
@@ -11,7 +11,7 @@ not_none None h = absurd (h refl)
 not_none (Some x) h = refl
 
 pub returns-clause-closed : goal.returns-clause-closed
-returns-clause-closed c = λ limits b sound. ap (λ (d : Document Begun). d.is_open) (closed_where limits b true (ap is_some sound) refl)
+returns-clause-closed c = λ limits b sound. ap (λ (d : Document ElementStart). d.is_open) (closed_where limits b true (ap is_some sound) refl)
 
 pub returns-clause-ended : goal.returns-clause-ended
 returns-clause-ended c = λ limits b sound. none_open_where limits b true (ap is_some sound) refl

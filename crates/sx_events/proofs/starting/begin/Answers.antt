@@ -7,6 +7,7 @@ use Rattle.sx_events.specs.Standing.{Holds}
 use Rattle.sx_events.specs.Starting.{spaces_fault, has_double_number}
 use Rattle.sx_events.proofs.Starts.{start_fault_is, event_is, label_known}
 use Rattle.sx_events.proofs.starting.begin.Goals as goal
+use Rattle.sx_names.specs.Scope.{ScopeBindings}
 
 pub returns-then-has_double-clause-begins : goal.returns-then-has_double-clause-begins
 returns-then-has_double-clause-begins c = λ p holds around wait.
@@ -14,7 +15,7 @@ returns-then-has_double-clause-begins c = λ p holds around wait.
     let lines_are = ap₂ (λ (n : ℕ) (ls : Vec Written). take n ls.items) c.take-count.ensures.count c.take-count.ensures.lines ∙ wait.ordinary in
     let declared = c.take-count.result.1 in
     let declared_are = c.take-count.ensures.spaces ∙ wait.spaces in
-    let entered = c.in_ok-enter.ensures.scope ∙ ap₂ (λ (s : List Space) (outer : List (List (List ℕ × List ℕ))). declared_behind [] s ∷ outer) (c.as_slice-2.ensures ∙ declared_are) around in
+    let entered = c.in_ok-enter.ensures.scope ∙ ap₂ (λ (s : List Space) (outer : ScopeBindings). declared_behind [] s ∷ outer) (c.as_slice-2.ensures ∙ declared_are) around in
     start_fault_is c.args.limits.now p c.args.name.now lines declared lines_are declared_are c.enter.new.self.scope entered c.element_label.new.names c.attributes.new.names c.attributes.ensures.kept
     c.in-Some-2.label c.in-Some-3.attrs
     (rw c.scope.ensures at (rw c.in-Some-2.is at c.in_ok-label.ensures.name)) (rw c.scope-2.ensures at (rw c.in-Some-3.is at c.in_ok-attrs.ensures.names))
@@ -36,7 +37,7 @@ returns-clause-begins c = λ p holds around wait.
     let lines_are = ap₂ (λ (n : ℕ) (ls : Vec Written). take n ls.items) c.take-count.ensures.count c.take-count.ensures.lines ∙ wait.ordinary in
     let declared = c.take-count.result.1 in
     let declared_are = c.take-count.ensures.spaces ∙ wait.spaces in
-    let entered = c.in_ok-enter.ensures.scope ∙ ap₂ (λ (s : List Space) (outer : List (List (List ℕ × List ℕ))). declared_behind [] s ∷ outer) (c.as_slice-2.ensures ∙ declared_are) around in
+    let entered = c.in_ok-enter.ensures.scope ∙ ap₂ (λ (s : List Space) (outer : ScopeBindings). declared_behind [] s ∷ outer) (c.as_slice-2.ensures ∙ declared_are) around in
     let it = rw c.scope.ensures at (rw c.in-Some-2.is at c.in_ok-label.ensures.name) in
     let all = rw c.scope-2.ensures at (rw c.in-Some-3.is at c.in_ok-attrs.ensures.names) in
     let spaces = ap spaces_fault (sym c.as_slice.ensures) ∙ sym c.spaces_fault.ensures ∙ c.in_default.is in

@@ -1,5 +1,5 @@
 use Rattle.std.proofs.Common.{◌+◌, ◌≤◌, arith}
-use Rattle.sx_esis.specs.Stands.{unread}
+use Rattle.sx_esis.specs.LineReader.{unread}
 use Rattle.sx_names.proofs.Places.{KeepsPlaces-trans}
 use Rattle.sx_events.specs.Pending.{IsIdle}
 use Rattle.sx_events.specs.Standing.{count}

@@ -1,5 +1,5 @@
 use Rattle.std.proofs.Common.{◌+◌, ◌≤◌, List, ℕ, Bool}
-use Rattle.sx_esis.specs.Stands.{unread}
+use Rattle.sx_esis.specs.LineReader.{unread}
 use Rattle.sx_names.specs.Numbering.{IsDistinct, KeepsPlaces}
 use Rattle.sx_events.specs.Reader.{Along}
 use Rattle.sx_events.specs.Standing.{count}

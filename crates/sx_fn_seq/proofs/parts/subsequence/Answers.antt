@@ -1,6 +1,6 @@
 use Rattle.std.proofs.Common.{Ok, Result, ap, sym, ◌∙◌}
-use Rattle.sx_arguments.specs.Positions.{Span, selects, at_positions}
-use Rattle.sx_arguments.specs.Ranges.{range_cut}
+use Rattle.sx_atoms.specs.Positions.{Span, selects, at_positions}
+use Rattle.sx_atoms.specs.Ranges.{range_cut}
 use Rattle.sx_atoms.specs.Numbers.{◌>>=◌}
 use Rattle.sx_atoms.specs.declared.error_codes.Code.{Code}
 use Rattle.sx_fn_seq.proofs.parts.subsequence.Goals as goal

@@ -1,8 +1,8 @@
 use Rattle.std.proofs.Common.{◌≤◌, subst, length, sym, ap, ◌∙◌, arith}
 use Rattle.std.specs.Str.{chars, encode_utf8_all}
 use Rattle.std.proofs.lemmas.Str.{encodes-chars, length-le-encodes}
-use Rattle.sx_arguments.specs.Positions.{selects}
-use Rattle.sx_arguments.specs.Ranges.{range_cut}
+use Rattle.sx_atoms.specs.Positions.{selects}
+use Rattle.sx_atoms.specs.Ranges.{range_cut}
 use Rattle.sx_fn_text.proofs.characters.cut.Goals as goal
 
 pub returns : goal.returns

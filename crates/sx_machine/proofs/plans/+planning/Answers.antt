@@ -1,7 +1,7 @@
 use Rattle.std.proofs.Common.{◌≡◌, ℕ, List, [], ◌∷◌, map, ap, ap₂, sym, ◌∙◌}
 use Rattle.std.proofs.lemmas.Result.{on_ok_weaker}
 use Rattle.sx_tree.specs.declared.events.Label.{Label}
-use Rattle.sx_tree.specs.Named.{Name, name_at}
+use Rattle.sx_named.specs.Named.{Name, name_at}
 use Rattle.sx_kinds.specs.declared.constructs.Instr.{Instr}
 use Rattle.sx_kinds.specs.declared.constructs.Instr.TheViews.{out-Instr}
 use Rattle.sx_kinds.specs.declared.constructs.InstrForm.{InstrForm}

@@ -1,5 +1,5 @@
 use Rattle.std.proofs.Common.{◌≡◌, ◌∙◌, true, false, bytes_eq, sym}
-use Rattle.sx_tree.specs.Named.{attributes_at}
+use Rattle.sx_named.specs.Named.{attributes_at}
 use Rattle.sx_sheet.specs.Tokens.{is_empty, is_plain_name, xslt_namespace}
 use Rattle.sx_names.specs.Numbering.{uri_at, local_at}
 use Rattle.sx_sheet.proofs.Told.{literal_starts}

@@ -1,5 +1,5 @@
 use Rattle.std.proofs.Common.{[]}
-use Rattle.sx_tree.specs.Named.{name_at, attributes_at}
+use Rattle.sx_named.specs.Named.{name_at, attributes_at}
 use Rattle.sx_sheet.proofs.Told.{known_start}
 use Rattle.sx_sheet.proofs.tokens.token_of.Goals as goal
 

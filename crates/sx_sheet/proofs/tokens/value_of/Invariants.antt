@@ -1,5 +1,5 @@
 use Rattle.std.proofs.Common.{◌≡◌, drop}
-use Rattle.sx_tree.specs.Named.{attributes_at}
+use Rattle.sx_named.specs.Named.{attributes_at}
 use Rattle.sx_sheet.specs.Tokens.{value_of}
 use Rattle.sx_sheet.proofs.tokens.value_of.Given as goal
 

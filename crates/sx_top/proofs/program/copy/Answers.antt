@@ -1,6 +1,6 @@
 use Rattle.sx_reading.proofs.Headlines.{run_of}
 use Rattle.sx_top.specs.Copy.{copy_written, copy_outcome}
-use Rattle.sx_transform.proofs.Loadings.{quiet_of}
+use Rattle.sx_top.proofs.Loadings.{quiet_of}
 use Rattle.sx_top.proofs.program.copy.Goals as goal
 
 pub returns-in-Ok-clause-headline : goal.returns-in-Ok-clause-headline

@@ -1,10 +1,10 @@
 use Rattle.std.proofs.Common.{subst}
-use Rattle.sx_events.specs.Limits.{stated}
-use Rattle.sx_events.specs.declared.limits.Limits.{Limits}
+use Rattle.sx_limits.specs.Limits.{stated}
+use Rattle.sx_limits.specs.declared.limits.Limits.{Limits}
 use Rattle.sx_reading.specs.Headline.{Transforms}
 use Rattle.sx_reading.proofs.Headlines.{run_of}
-use Rattle.sx_transform.specs.Run.{run_written, run_outcome}
-use Rattle.sx_transform.proofs.Loadings.{quiet_of}
+use Rattle.sx_top.specs.Run.{run_written, run_outcome}
+use Rattle.sx_top.proofs.Loadings.{quiet_of}
 use Rattle.sx_top.proofs.program.run_on.Goals as goal
 
 pub returns-in-Ok-clause-headline : goal.returns-in-Ok-clause-headline

@@ -1,4 +1,4 @@
-use Rattle.sx_tree.specs.Named.{attribute_at}
+use Rattle.sx_named.specs.Named.{attribute_at}
 use Rattle.sx_build.proofs.Requests.{misplaced_taken}
 use Rattle.sx_build.proofs.builder.Builder.take_attribute.Goals as goal
 

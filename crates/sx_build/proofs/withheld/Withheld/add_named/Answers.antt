@@ -1,7 +1,7 @@
 use Rattle.std.proofs.Common.{ap, ◌∙◌}
 use Rattle.std.specs.List.{position}
 use Rattle.std.proofs.lemmas.Result.{on_ok_weaker}
-use Rattle.sx_tree.specs.Named.{Name, is_same_name}
+use Rattle.sx_named.specs.Named.{Name, is_same_name}
 use Rattle.sx_build.proofs.Positions.{in_place, behind_all}
 use Rattle.sx_build.proofs.withheld.Withheld.add_named.Goals as goal
 

@@ -1,6 +1,6 @@
 use Rattle.std.proofs.Common.{true, false, List, ◌∷◌, ap, sym, ◌∙◌, arith}
 use Rattle.std.proofs.lemmas.List.{take_all}
-use Rattle.sx_tree.specs.Named.{Name}
+use Rattle.sx_named.specs.Named.{Name}
 use Rattle.sx_build.specs.FixUp.{is_one_of}
 use Rattle.sx_build.specs.Kept.{name_prefixes}
 use Rattle.sx_build.proofs.Taken.{taken_by}

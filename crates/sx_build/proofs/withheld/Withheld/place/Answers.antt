@@ -1,7 +1,7 @@
 use Rattle.std.proofs.Common.{List, ◌++◌, ap, ap₂, ◌∙◌}
 use Rattle.std.proofs.lemmas.Result.{on_ok_weaker}
 use Rattle.sx_chars.specs.Names.{prefixed}
-use Rattle.sx_tree.specs.Named.{Name}
+use Rattle.sx_named.specs.Named.{Name}
 use Rattle.sx_build.specs.FixUp.{Binding, is_bound}
 use Rattle.sx_build.specs.declared.withheld.Withheld.{Withheld}
 use Rattle.sx_build.specs.Build.{printed_name}

@@ -1,8 +1,8 @@
 use Rattle.std.proofs.Common.{◌≡◌, ◌++◌, ◌-◌, ◌^◌, ◌≤◌, ℕ, List, min, false, length, length-append, refl, ap, sym, ◌∙◌, subst, arith}
 use Rattle.std.proofs.lemmas.Result.{err_from_is_err_and}
-use Rattle.sx_esis.specs.Stands as reader
+use Rattle.sx_esis.specs.LineReader as reader
 use Rattle.sx_events.specs.Course.{looked_at}
-use Rattle.sx_events.specs.declared.limits.Limits.{Limits}
+use Rattle.sx_limits.specs.declared.limits.Limits.{Limits}
 use Rattle.sx_events.proofs.Feedings.{along_more, stands_fed, same_at}
 use Rattle.sx_events.proofs.Readings.{no_ending, going_of, stands_going}
 use Rattle.sx_events.proofs.event_reader.EventReader.feed.Goals as goal
@@ -46,5 +46,5 @@ returns-clause-fed c = λ limits names b given stands.
     stands_going _ limits names (b ++ piece) false given none (record {
       counted = record { same = going.counted.same; total = now; told = going.counted.told };
       along = along_more s.lines c.feed.new.self s.standing s.pending limits names b piece false given s.line a
-          (subst (λ (x : List ℕ). reader.Stands c.feed.new.self limits.line x false (length a.front)) (sym looks) (c.in_ok-feed.ensures.ok limits.line _ _ a.reads));
+          (subst (λ (x : List ℕ). reader.LinesStand c.feed.new.self limits.line x false (length a.front)) (sym looks) (c.in_ok-feed.ensures.ok limits.line _ _ a.reads));
     })

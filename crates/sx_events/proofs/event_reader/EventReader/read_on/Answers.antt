@@ -1,6 +1,6 @@
 use Rattle.std.proofs.Common.{sym, ◌∙◌, subst}
 use Rattle.sx_events.specs.Reader.{Along, TookAll, Broke}
-use Rattle.sx_events.specs.declared.limits.Limits.{Limits}
+use Rattle.sx_limits.specs.declared.limits.Limits.{Limits}
 use Rattle.sx_events.proofs.Readings.{no_ending, going_of}
 use Rattle.sx_events.proofs.Endings.{rests_going}
 use Rattle.sx_events.proofs.event_reader.EventReader.read_on.Goals as goal

@@ -1,5 +1,5 @@
 use Rattle.std.proofs.Common.{sym, ◌∙◌}
-use Rattle.sx_events.specs.declared.faults.Which.TheVariants as which
+use Rattle.sx_limits.specs.declared.faults.Which.TheVariants as which
 use Rattle.sx_events.proofs.Endings.{few_looked, last_number, number_behind, breaks_beyond, breaks_short, ends_well, broke, well, along_all, gave_all, rests_going}
 use Rattle.sx_events.proofs.event_reader.EventReader.settle.Goals as goal
 

@@ -2,8 +2,8 @@ use Rattle.std.proofs.Common.{◌≡◌, ◌∙◌, Bool, not, true, false, cond
 use Rattle.std.proofs.lemmas.Bool.{false≢true}
 use Rattle.sx_esis.specs.Lines.{has}
 use Rattle.sx_events.specs.Course.{behind}
-use Rattle.sx_events.specs.declared.faults.Which.{Which}
-use Rattle.sx_events.specs.declared.faults.Which.TheVariants as which
+use Rattle.sx_limits.specs.declared.faults.Which.{Which}
+use Rattle.sx_limits.specs.declared.faults.Which.TheVariants as which
 use Rattle.sx_events.proofs.Takings.{knows_flushed, flush_waits}
 use Rattle.sx_events.proofs.standing.Standing.attribute.Goals as goal
 

@@ -1,7 +1,7 @@
 use Rattle.std.proofs.Common.{◌∙◌, not, refl, ap, sym}
 use Rattle.sx_esis.specs.Lines.{conforms}
 use Rattle.sx_events.specs.Course.{behind}
-use Rattle.sx_events.specs.declared.faults.Which.TheVariants as which
+use Rattle.sx_limits.specs.declared.faults.Which.TheVariants as which
 use Rattle.sx_events.proofs.Takings.{knows_flushed, flush_waits, no_fault}
 use Rattle.sx_events.proofs.standing.Standing.conform.Goals as goal
 

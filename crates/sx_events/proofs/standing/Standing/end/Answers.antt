@@ -4,7 +4,7 @@ use Rattle.sx_tree.specs.Tree as tree
 use Rattle.sx_tree.specs.declared.events.Event.TheVariants as event
 use Rattle.sx_events.specs.Course.{behind, rest_of}
 use Rattle.sx_events.specs.Place.{ordinary, spaces_of}
-use Rattle.sx_events.specs.declared.faults.Which.TheVariants as which
+use Rattle.sx_limits.specs.declared.faults.Which.TheVariants as which
 use Rattle.sx_events.proofs.Takings.{knows_flushed, put_waits, put_count, not_loose, no_fault}
 use Rattle.sx_events.proofs.standing.Standing.end.Goals as goal
 

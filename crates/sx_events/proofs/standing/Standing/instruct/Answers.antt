@@ -1,8 +1,8 @@
 use Rattle.std.proofs.Common.{◌≡◌, ◌∙◌, List, ℕ, refl, ap, ap₂}
 use Rattle.sx_esis.specs.Lines.{instructs}
-use Rattle.sx_tree.specs.Named.{Begun}
+use Rattle.sx_named.specs.Named.{ElementStart}
 use Rattle.sx_tree.specs.Tree as tree
-use Rattle.sx_tree.specs.Tree.{Happening}
+use Rattle.sx_tree.specs.Tree.{TreeEvent}
 use Rattle.sx_tree.specs.declared.events.Event.TheVariants as event
 use Rattle.sx_events.specs.Course.{behind, instruction}
 use Rattle.sx_events.specs.Place.{ordinary, spaces_of}
@@ -13,7 +13,7 @@ pub returns-clause-takes : goal.returns-clause-takes
 returns-clause-takes c = λ limits names p knows may line idle.
     let text = c.args.text.now in
     let flushed = c.put.ensures.flushed in
-    let what : ◌≡◌ {A = Happening Begun} (tree.instructs c.in_ok-target.target c.in_ok-content.content) (instruction text) =
+    let what : ◌≡◌ {A = TreeEvent ElementStart} (tree.instructs c.in_ok-target.target c.in_ok-content.content) (instruction text) =
     ap₂ (λ (t s : List ℕ). tree.instructs t s) (c.in_ok-target.ensures ∙ c.split_instruction.ensures.target) (c.in_ok-content.ensures ∙ c.split_instruction.ensures.content) in
     let waits = put_waits names c.args.self.now _ c.put.new.self c.put.new.pending p knows refl flushed (event.Pi c.in_ok-target.target c.in_ok-content.content) c.args.number (instruction text) c.put.ensures.event line what tt in
     let strict = not_loose p (instructs text) may refl in

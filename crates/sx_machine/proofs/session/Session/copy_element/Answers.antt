@@ -2,7 +2,7 @@ use Rattle.std.proofs.Common.{◌≡◌, ◌∷◌, [], ◌++◌, ℕ, List, Opt
 use Rattle.std.proofs.lemmas.Bool.{false≢true}
 use Rattle.sx_atoms.specs.declared.error_codes.Code.{Code}
 use Rattle.sx_atoms.specs.declared.error_codes.Code.TheVariants as error
-use Rattle.sx_tree.specs.Named.{Name, Attribute, name_at, attributes_at}
+use Rattle.sx_named.specs.Named.{Name, Attribute, name_at, attributes_at}
 use Rattle.sx_build.specs.Asked as ask
 use Rattle.sx_build.specs.Asked.{Asked}
 use Rattle.sx_machine.specs.declared.session.After.TheVariants as after

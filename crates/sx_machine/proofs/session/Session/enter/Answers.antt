@@ -1,6 +1,6 @@
 use Rattle.std.proofs.Common.{Bool, ap, refl, sym, ◌∙◌}
 use Rattle.std.proofs.lemmas.Result.{on_ok_weaker}
-use Rattle.sx_tree.specs.Named.{Name}
+use Rattle.sx_named.specs.Named.{Name}
 use Rattle.sx_machine.specs.Choice.{built_in, body_or, matches, last_that}
 use Rattle.sx_machine.specs.Plan.{plan_of}
 use Rattle.sx_machine.specs.Meaning.{is_copying_first}

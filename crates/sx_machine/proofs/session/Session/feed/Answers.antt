@@ -1,5 +1,5 @@
 use Rattle.std.proofs.Common.{refl}
-use Rattle.sx_tree.specs.Named.{named}
+use Rattle.sx_named.specs.Named.{named}
 use Rattle.sx_tree.specs.Tree.{tree_of}
 use Rattle.sx_machine.proofs.Events.{stands_more}
 use Rattle.sx_machine.proofs.Machine.{stands_stopped, never_closed}

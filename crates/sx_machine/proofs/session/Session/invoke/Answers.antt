@@ -7,7 +7,7 @@ use Rattle.sx_machine.specs.declared.plans.Rule.{Rule}
 use Rattle.sx_machine.specs.declared.session.After.TheVariants as after
 use Rattle.sx_machine.specs.declared.session.Frame.{Frame}
 use Rattle.sx_machine.specs.declared.session.Job.{Job}
-use Rattle.sx_machine.specs.Run.{Out, waits, ending_with}
+use Rattle.sx_machine.specs.Run.{Output, waits, ending_with}
 use Rattle.sx_machine.specs.Plan.{Plan, Task, read_plan, job_of, after_of, after_rule, task_of, task_for}
 use Rattle.sx_machine.specs.Writer.{StandsFor}
 use Rattle.sx_machine.specs.Session.{Wrote, state_of}
@@ -30,7 +30,7 @@ returns-clause-ok c = λ sheet known invocations d e given keeps planned o j s.
     let more : List Asked = all_asked_at names q.plan.before in
     let frame : Frame = record { job = c.job_for.result; after = after.Rule place } in
     let task : task_of known rules frame ≡ task_for c.args.left p =
-    ap₂ (λ (i : Job) (a : Out). let t : Task = record { job = i; after = a } in t) (c.job_for.ensures names ∙ ap (λ (x : Rule). job_of c.args.left (read_plan names x.plan)) (sym c.index-as_slice-place.is))
+    ap₂ (λ (i : Job) (a : Output). let t : Task = record { job = i; after = a } in t) (c.job_for.ensures names ∙ ap (λ (x : Rule). job_of c.args.left (read_plan names x.plan)) (sym c.index-as_slice-place.is))
     (ap (after_rule known) here ∙ ap after_of reads) in
     let wrote : Wrote old _ more = record {
       same_rules = refl;

@@ -3,7 +3,7 @@ use Rattle.sx_atoms.specs.declared.error_codes.Code.{Code}
 use Rattle.sx_build.specs.Asked.{Asked, all_asked_at}
 use Rattle.sx_machine.specs.declared.plans.Rule.{Rule}
 use Rattle.sx_machine.specs.declared.session.After.{After}
-use Rattle.sx_machine.specs.Run.{Out, waits, ending_with}
+use Rattle.sx_machine.specs.Run.{Output, waits, ending_with}
 use Rattle.sx_machine.specs.Plan.{after_at, after_rule}
 use Rattle.sx_machine.specs.Writer.{StandsFor}
 use Rattle.sx_machine.specs.Session.{state_of}
@@ -15,7 +15,7 @@ returns-in_ok-push_all-in-Rule-clause-ok c =
     let rules = c.args.self.now.rules.list in
     let more : List Asked = (after_at names rules c.args.after).raw in
     let same : all_asked_at names c.behind_in-behind.result.now ≡ more =
-    ap (λ (o : Out). o.raw) (c.behind_in-behind.ensures names ∙ ap (λ (rs : List Rule). after_rule names (slice_get rs c.in-Rule.place)) c.as_slice.ensures)
+    ap (λ (o : Output). o.raw) (c.behind_in-behind.ensures names ∙ ap (λ (rs : List Rule). after_rule names (slice_get rs c.in-Rule.place)) c.as_slice.ensures)
     ∙ ap (λ (a : After). (after_at names rules a).raw) (sym c.in-Rule.is) in
     record {
       same_rules = refl;

@@ -11,14 +11,15 @@ use Rattle.sx_machine.specs.Writer.{StandsFor}
 use Rattle.sx_machine.specs.Session.{Builds, first_state, state_of}
 use Rattle.sx_machine.proofs.Places.{finds_last}
 use Rattle.sx_machine.proofs.session.Session.start.Goals as goal
+use Rattle.sx_names.specs.Numbering.{NameTable}
 
 -- nothing was asked for yet
-builds_nothing : (sheet : Sheet) (names : List (List ℕ × List ℕ)) (invocations : ℕ) (s : Session) → StandsFor s.writer [] false 0 →
+builds_nothing : (sheet : Sheet) (names : NameTable) (invocations : ℕ) (s : Session) → StandsFor s.writer [] false 0 →
     Builds s (meaning_on sheet names invocations empty_document).raw (result_of (meaning_on sheet names invocations empty_document)) 0
 builds_nothing sheet names zero s stands = record { asked = []; at_end = false; stands = stands; built_is = refl; all_asked = λ _. (refl, refl) }
 builds_nothing sheet names (suc left) s stands = record { asked = []; at_end = false; stands = stands; built_is = refl; all_asked = λ _. (refl, refl) }
 
-state_first : (sheet : Sheet) (names : List (List ℕ × List ℕ)) (invocations : ℕ) → first_state invocations ≡ state_of (result_of (meaning_on sheet names invocations empty_document)).ending
+state_first : (sheet : Sheet) (names : NameTable) (invocations : ℕ) → first_state invocations ≡ state_of (result_of (meaning_on sheet names invocations empty_document)).ending
 state_first sheet names zero = refl
 state_first sheet names (suc left) = refl
 

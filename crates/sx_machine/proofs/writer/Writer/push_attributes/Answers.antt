@@ -3,7 +3,7 @@ use Rattle.std.proofs.lemmas.List.{reverse-append, reverse-reverse}
 use Rattle.sx_build.specs.Asked as ask
 use Rattle.sx_build.specs.Asked.{Asked}
 use Rattle.sx_tree.specs.declared.events.Attr.{Attr}
-use Rattle.sx_tree.specs.Named.{attribute_at, attributes_at}
+use Rattle.sx_named.specs.Named.{attribute_at, attributes_at}
 use Rattle.sx_machine.specs.Writer.{StandsFor, asked_attributes}
 use Rattle.sx_machine.proofs.writer.Writer.push_attributes.Goals as goal
 

@@ -1,6 +1,6 @@
 use Rattle.std.proofs.Common.{◌≡◌, ◌++◌, ℕ, List, false, length, reverse}
 use Rattle.sx_build.specs.Asked.{Asked}
-use Rattle.sx_tree.specs.Named.{attributes_at}
+use Rattle.sx_named.specs.Named.{attributes_at}
 use Rattle.sx_machine.specs.Writer.{StandsFor, asked_attributes}
 use Rattle.sx_machine.proofs.writer.Writer.push_attributes.Given as goal
 

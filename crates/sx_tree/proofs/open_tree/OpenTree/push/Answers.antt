@@ -1,5 +1,5 @@
 use Rattle.std.proofs.Common.{arith, refl, ◌≤◌}
-use Rattle.sx_tree.specs.Events.{happening_of, happenings_of}
+use Rattle.sx_tree.specs.Events.{tree_event, tree_events}
 use Rattle.sx_tree.specs.Tree as spec
 use Rattle.sx_tree.proofs.Count.{passes, exactly, fits, counted_next, tree-snoc}
 use Rattle.sx_tree.proofs.open_tree.OpenTree.push.Goals as goal
@@ -15,8 +15,8 @@ invariant_of-self-2 c =
     rw (c.in_ok-push.ensures.ok, c.in_ok-copy.ensures)
     (counted_next c.self.inside.events c.self.inside.limit c.self.inside.nodes _ c.self.inside.is_open _ c.args.event.now c.self.invariant
     (rw (← c.self.view_is) at c.requires)
-    (exactly c.self.inside.nodes c.begun_nodes.result c.saturating_add-nodes.result (spec.tree_of (happenings_of c.self.inside.events)) (happening_of c.args.event.now) c.self.invariant.count c.begun_nodes.ensures c.saturating_add-nodes.ensures c.self.inside.limit c.self.invariant.small within)
-    (c.stays_open-self-inside.ensures (spec.tree_of (happenings_of c.self.inside.events)) c.self.invariant.still_open))
+    (exactly c.self.inside.nodes c.begun_nodes.result c.saturating_add-nodes.result (spec.tree_of (tree_events c.self.inside.events)) (tree_event c.args.event.now) c.self.invariant.count c.begun_nodes.ensures c.saturating_add-nodes.ensures c.self.inside.limit c.self.invariant.small within)
+    (c.stays_open-self-inside.ensures (spec.tree_of (tree_events c.self.inside.events)) c.self.invariant.still_open))
 
 pub returns-clause-ok : goal.returns-clause-ok
 returns-clause-ok c =
@@ -26,6 +26,6 @@ returns-clause-ok c =
 pub returns-clause-exactly : goal.returns-clause-exactly
 returns-clause-exactly c =
     let within : c.saturating_add-nodes.result ≤ c.self.inside.limit = omega (arith, c.if-nodes-self.false) in
-    let fit = fits c.self.inside.nodes c.begun_nodes.result c.saturating_add-nodes.result (spec.tree_of (happenings_of c.self.inside.events)) (happening_of c.args.event.now) c.self.invariant.count c.begun_nodes.ensures c.saturating_add-nodes.ensures c.self.inside.limit c.self.invariant.small within in
+    let fit = fits c.self.inside.nodes c.begun_nodes.result c.saturating_add-nodes.result (spec.tree_of (tree_events c.self.inside.events)) (tree_event c.args.event.now) c.self.invariant.count c.begun_nodes.ensures c.saturating_add-nodes.ensures c.self.inside.limit c.self.invariant.small within in
     rw (← c.self.view_is)
     (λ no. absurd (cc), λ more. absurd (omega (arith, fit, more)))

@@ -1,4 +1,0 @@
-pub mod Arguments
-pub mod Positions
-pub mod Ranges
-pub mod Signature

@@ -1,9 +1,0 @@
-pub mod Comings
-pub mod Results
-pub mod Runs
-pub mod Running
-pub mod Pumps
-pub mod Runners
-pub mod Stylesheets
-pub mod Accepting
-pub mod Loadings

@@ -1,5 +1,0 @@
-pub mod Keeping
-pub mod Run
-pub mod Runner
-pub mod Stylesheet
-pub mod Loading
