@@ -51,7 +51,7 @@ impl Model for NodeTable {
 
 // The number of nodes that an event begins, or the greatest u64.
 fn begun_nodes(event: &Event) -> u64
-    ensures { result ≡ min (node_count (spec.begun (tree_event event.now))) (2 ^ 64 - 1) }
+    ensures { result ≡ min (node_count (spec.first_node (tree_event event.now))) (2 ^ 64 - 1) }
 {
     match event {
         Event::Start { attrs, .. } => (attrs.len() as u64).saturating_add(1),
