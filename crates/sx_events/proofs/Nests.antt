@@ -44,13 +44,13 @@ pushed : (f node : Forest ElementStart) (n k : ℕ) → length (open_elements f)
 pushed f node n k i j = ap (λ (xs : List ElementStart). length xs) (open-push_node f node) ∙ omega (arith, length-append (open_elements f) (open_elements node), i, j)
 
 open_start : (es : Events) (n : ℕ) (b : ElementStart) → Open es n → Open (es ++ tree.starts b ∷ []) (suc n)
-open_start es n b o = after es (tree.starts b) (suc n) o.going (omega (arith, pushed (tree_of es).content (tree.begun (tree.starts b)) n 1 o.depth refl))
+open_start es n b o = after es (tree.starts b) (suc n) o.going (omega (arith, pushed (tree_of es).content (tree.first_node (tree.starts b)) n 1 o.depth refl))
 
 open_text : (es : Events) (n : ℕ) (s : List ℕ) → Open es n → Open (es ++ tree.says s ∷ []) n
-open_text es n s o = after es (tree.says s) n o.going (omega (arith, pushed (tree_of es).content (tree.begun (tree.says s)) n 0 o.depth refl))
+open_text es n s o = after es (tree.says s) n o.going (omega (arith, pushed (tree_of es).content (tree.first_node (tree.says s)) n 0 o.depth refl))
 
 open_instruction : (es : Events) (n : ℕ) (t c : List ℕ) → Open es n → Open (es ++ tree.instructs t c ∷ []) n
-open_instruction es n t c o = after es (tree.instructs t c) n o.going (omega (arith, pushed (tree_of es).content (tree.begun (tree.instructs t c)) n 0 o.depth refl))
+open_instruction es n t c o = after es (tree.instructs t c) n o.going (omega (arith, pushed (tree_of es).content (tree.first_node (tree.instructs t c)) n 0 o.depth refl))
 
 -- where elements are open, one is
 some_open : (f : Forest ElementStart) (n : ℕ) → length (open_elements f) ≡ suc n → has_open f ≡ true
