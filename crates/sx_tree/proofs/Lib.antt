@@ -1,3 +1,4 @@
 pub mod Open
 pub mod Follow
 pub mod Count
+pub mod Mapping

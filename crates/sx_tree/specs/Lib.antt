@@ -3,3 +3,4 @@ pub mod Spine
 pub mod Events
 pub mod OpenTree
 pub mod Counted
+pub mod Mapping
