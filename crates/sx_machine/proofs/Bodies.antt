@@ -4,7 +4,7 @@ use Rattle.std.proofs.lemmas.Bool.Decides.{nat_tests}
 use Rattle.sx_kinds.specs.declared.sheets.Template.{Template}
 use Rattle.sx_machine.specs.Body.{Body, nil, literal, copies, words, apply, body_of, written_out, consumes, consuming_parts, or_else, if_two, culprit_inside, culprit_of, culprit}
 use Rattle.sx_tree.specs.declared.events.Label.{Label}
-use Rattle.sx_named.specs.Named.{ElementStart}
+use Rattle.sx_named.specs.Named.{NamedElement}
 use Rattle.sx_machine.specs.Choice.{otherwise, last_that, matches, built_in, body_or, chosen_for}
 use Rattle.sx_names.specs.Numbering.{NameTable}
 
@@ -101,11 +101,11 @@ module _ (names : NameTable) where
   good_written (words s rest) h = good_written rest h
   good_written (apply rest) h = consumes_written rest ∙ h
 
-  good_built_in : (is_copying : Bool) (e : ElementStart) → IsGood (built_in is_copying e)
+  good_built_in : (is_copying : Bool) (e : NamedElement) → IsGood (built_in is_copying e)
   good_built_in false e = refl
   good_built_in true e = (refl, tt, refl)
 
-  module _ (is_copying : Bool) (e : ElementStart) where
+  module _ (is_copying : Bool) (e : NamedElement) where
     abbrev IsGoodChoice : Option Template → Type 0
     IsGoodChoice o = IsGood (body_or names (built_in is_copying e) o)
 

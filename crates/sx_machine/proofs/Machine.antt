@@ -2,7 +2,7 @@
 use Rattle.std.proofs.Common.{◌≡◌, ℕ, zero, suc, Bool, true, false, List, [], ◌++◌, Option, Some, None, refl, ap, sym, ◌∙◌, subst, append-nil, map}
 use Rattle.sx_atoms.specs.declared.error_codes.Code.{Code}
 use Rattle.sx_kinds.specs.declared.sheets.Sheet.{Sheet}
-use Rattle.sx_named.specs.Named.{Name, ElementStart}
+use Rattle.sx_named.specs.Named.{Name, NamedElement}
 use Rattle.sx_tree.specs.Tree.{Document, Forest, TreeEvent, starts, ends, says, instructs, closes, push, has_open}
 use Rattle.sx_build.specs.Asked.{Asked}
 use Rattle.sx_build.specs.Build.{Build, error_of}
@@ -72,18 +72,18 @@ module _ (sheet : Sheet) (names : NameTable) where
   abbrev is_copying : Bool
   is_copying = is_copying_first sheet.modes
 
-  abbrev chosen : ElementStart → Body Name
+  abbrev chosen : NamedElement → Body Name
   chosen = chosen_for names is_copying sheet.templates
 
   module _ (ready : IsReady sheet names) where
-    good : (e : ElementStart) → IsGood (chosen e)
+    good : (e : NamedElement) → IsGood (chosen e)
     good e = all_good sheet ready.streamable names 0 e
 
-    meaning_open : (left : ℕ) (d : Document ElementStart) → d.is_open ≡ true → meaning_on sheet names (suc left) d ≡ applied is_copying chosen left true d.content
+    meaning_open : (left : ℕ) (d : Document NamedElement) → d.is_open ≡ true → meaning_on sheet names (suc left) d ≡ applied is_copying chosen left true d.content
     meaning_open left d o = ap (λ (b : Bool). applied is_copying chosen left b d.content) o
 
     -- the meaning after one happening more
-    meaning_next : (invocations : ℕ) (d : Document ElementStart) (h : TreeEvent ElementStart) → d.is_open ≡ true → GoesOn h →
+    meaning_next : (invocations : ℕ) (d : Document NamedElement) (h : TreeEvent NamedElement) → d.is_open ≡ true → GoesOn h →
         meaning_on sheet names invocations (push d h)
         ≡ resume (meaning_on sheet names invocations d) (reacts is_copying chosen (root_job invocations) (tasks chosen (root_job invocations) d.content) h)
     meaning_next zero d h o g = refl
@@ -94,13 +94,13 @@ module _ (sheet : Sheet) (names : NameTable) where
         ∙ ap (λ (x : Output). resume x (reacts is_copying chosen (root_job (suc left)) (tasks chosen (root_job (suc left)) d.content) h)) (sym (meaning_open left d o))
 
     -- and at the close
-    meaning_closed : (invocations : ℕ) (d : Document ElementStart) → d.is_open ≡ true → has_open d.content ≡ false →
+    meaning_closed : (invocations : ℕ) (d : Document NamedElement) → d.is_open ≡ true → has_open d.content ≡ false →
         meaning_on sheet names invocations (push d closes) ≡ resume (meaning_on sheet names invocations d) (gives [])
     meaning_closed zero d o h = refl
     meaning_closed (suc left) d o h =
         closed is_copying chosen good left d.content h ∙ ap (λ (x : Output). resume x (gives [])) (sym (meaning_open left d o))
 
-  module _ (invocations : ℕ) (old : Session) (d : Document ElementStart) (given : ℕ) (s : StandsOn sheet names invocations old d given) where
+  module _ (invocations : ℕ) (old : Session) (d : Document NamedElement) (given : ℕ) (s : StandsOn sheet names invocations old d given) where
     abbrev before : Output
     before = meaning_on sheet names invocations d
 
@@ -119,7 +119,7 @@ module _ (sheet : Sheet) (names : NameTable) where
         (subst (λ (asked : List Asked). StandsFor old.writer asked s.builds.at_end given) same.0 s.builds.stands)
 
     -- a session that goes on, where these come and it ends so
-    pub stands_next : (new : Session) (h : TreeEvent ElementStart) (more : List Asked) (g : Ending) → old.state ≡ state.Going → d.is_open ≡ true → GoesOn h →
+    pub stands_next : (new : Session) (h : TreeEvent NamedElement) (more : List Asked) (g : Ending) → old.state ≡ state.Going → d.is_open ≡ true → GoesOn h →
         reacts is_copying chosen old.root (map (task_of names old.rules.list) old.frames) h ≡ out more g →
         new.rules ≡ old.rules → new.is_copying ≡ old.is_copying → new.root ≡ old.root →
         StandsFor new.writer (before.raw ++ more) false given → new.state ≡ state_of (ending_with (error_of (before.raw ++ more)) g) →
@@ -148,7 +148,7 @@ module _ (sheet : Sheet) (names : NameTable) where
           root_is = root ∙ s.root_is;
           builds = subst (λ (x : Output). Builds new x.raw (result_of x) given) (sym after) builds;
           state_is = state_is ∙ ap (λ (x : Output). state_of (result_of x).ending) (sym after);
-          frames_are = λ k. frames k ∙ ap (λ (x : Document ElementStart). tasks chosen new.root x.content) (sym (push_is d h goes));
+          frames_are = λ k. frames k ∙ ap (λ (x : Document NamedElement). tasks chosen new.root x.content) (sym (push_is d h goes));
         }
 
     -- a session that goes on, at the close
@@ -178,7 +178,7 @@ module _ (sheet : Sheet) (names : NameTable) where
         }
 
     -- a session that has stopped
-    pub stands_stopped : (h : TreeEvent ElementStart) (c : Code) → old.state ≡ state.Stopped c → d.is_open ≡ true → ClosesWhole d h → StandsOn sheet names invocations old (push d h) given
+    pub stands_stopped : (h : TreeEvent NamedElement) (c : Code) → old.state ≡ state.Stopped c → d.is_open ≡ true → ClosesWhole d h → StandsOn sheet names invocations old (push d h) given
     stands_stopped h c stopped o w =
         let after : Output = meaning_on sheet names invocations (push d h) in
         let final : (result_of before).ending ≡ stops c = stops_if_stopped (result_of before).ending c (sym s.state_is ∙ stopped) in

@@ -6,7 +6,7 @@ use Rattle.sx_atoms.specs.declared.error_codes.Code.TheVariants as error
 use Rattle.sx_names.specs.Numbering.{NameTable, KeepsPlaces}
 use Rattle.sx_kinds.specs.declared.sheets.Sheet.{Sheet}
 use Rattle.sx_tree.specs.declared.events.Attr.{Attr}
-use Rattle.sx_named.specs.Named.{Name, Attribute, ElementStart, attributes_at}
+use Rattle.sx_named.specs.Named.{Name, Attribute, NamedElement, attributes_at}
 use Rattle.sx_tree.specs.Tree.{Document, Forest, TreeEvent, starts, ends, says, instructs, push, push_node, first_node}
 use Rattle.sx_build.specs.Asked as ask
 use Rattle.sx_build.specs.Asked.{Asked, all_asked_at}
@@ -78,19 +78,19 @@ none_named names [] e = refl
 none_named names (a ∷ rest) e = absurd (cc)
 
 -- what a copy gives before the children, where all its attributes are given
-pub before_copy : (left : ℕ) (e : ElementStart) → (left ≡ 0 → e.attributes ≡ []) → before_of (plan_of left (built_in true e)) ≡ gives (ask.starts e.name ∷ asked_attributes e.attributes)
+pub before_copy : (left : ℕ) (e : NamedElement) → (left ≡ 0 → e.attributes ≡ []) → before_of (plan_of left (built_in true e)) ≡ gives (ask.starts e.name ∷ asked_attributes e.attributes)
 before_copy left e h =
     ap (λ (x : Output). next (gives (ask.starts e.name ∷ [])) x) (next-nil (copied_attributes left e.attributes) ∙ attributes_asked left e.attributes h)
 
 -- the same, where its first attribute is too deep
-pub before_deep : (left : ℕ) (e : ElementStart) → left ≡ 0 → ¬ (e.attributes ≡ []) → before_of (plan_of left (built_in true e)) ≡ out (ask.starts e.name ∷ []) (stops error.Sxli0001)
+pub before_deep : (left : ℕ) (e : NamedElement) → left ≡ 0 → ¬ (e.attributes ≡ []) → before_of (plan_of left (built_in true e)) ≡ out (ask.starts e.name ∷ []) (stops error.Sxli0001)
 before_deep left e z h =
     ap (λ (x : Output). next (gives (ask.starts e.name ∷ [])) x)
     (next-nil (copied_attributes left e.attributes) ∙ ap (λ (n : ℕ). copied_attributes n e.attributes) z ∙ attributes_deep e.attributes h)
 
-module _ (sheet : Sheet) (names : NameTable) (invocations : ℕ) (old : Session) (d : Document ElementStart) (given : ℕ)
+module _ (sheet : Sheet) (names : NameTable) (invocations : ℕ) (old : Session) (d : Document NamedElement) (given : ℕ)
     (s : StandsOn sheet names invocations old d given) (going : old.state ≡ state.Going) (o : d.is_open ≡ true) where
-  abbrev chosen : ElementStart → Body Name
+  abbrev chosen : NamedElement → Body Name
   chosen = chosen_for names (is_copying_first sheet.modes) sheet.templates
 
   abbrev now : List Task
@@ -99,7 +99,7 @@ module _ (sheet : Sheet) (names : NameTable) (invocations : ℕ) (old : Session)
   abbrev so_far : List Asked
   so_far = (meaning_on sheet names invocations d).raw
 
-  abbrev answers : TreeEvent ElementStart → Output
+  abbrev answers : TreeEvent NamedElement → Output
   answers h = reacts (is_copying_first sheet.modes) chosen old.root now h
 
   -- the tasks on the tree
@@ -118,13 +118,13 @@ module _ (sheet : Sheet) (names : NameTable) (invocations : ℕ) (old : Session)
 
   module _ (new : Session) (rules : new.rules ≡ old.rules) (copying : new.is_copying ≡ old.is_copying) (root : new.root ≡ old.root) where
     -- nothing comes
-    comes_nothing : (h : TreeEvent ElementStart) → GoesOn h → answers h ≡ waiting → new.writer ≡ old.writer → new.state ≡ state.Going →
+    comes_nothing : (h : TreeEvent NamedElement) → GoesOn h → answers h ≡ waiting → new.writer ≡ old.writer → new.state ≡ state.Going →
         map (task_of names new.rules.list) new.frames ≡ tasks chosen new.root (pushed d.content h) → StandsOn sheet names invocations new (push d h) given
     comes_nothing h g is written still frames =
         stands_next sheet names invocations old d given s new h [] waits going o g is rules copying root (same_asked new written) (still ∙ same_error waits) (λ _. frames)
 
     -- the invocations are too many
-    comes_too_deep : (h : TreeEvent ElementStart) → GoesOn h → answers h ≡ too_deep → new.writer ≡ old.writer → new.state ≡ state.Stopped error.Sxli0001 →
+    comes_too_deep : (h : TreeEvent NamedElement) → GoesOn h → answers h ≡ too_deep → new.writer ≡ old.writer → new.state ≡ state.Stopped error.Sxli0001 →
         StandsOn sheet names invocations new (push d h) given
     comes_too_deep h g is written stopped =
         stands_next sheet names invocations old d given s new h [] (stops error.Sxli0001) going o g is rules copying root (same_asked new written)
@@ -132,12 +132,12 @@ module _ (sheet : Sheet) (names : NameTable) (invocations : ℕ) (old : Session)
 
     -- ---- the frames
 
-    same_frames : (f : Forest ElementStart) → tasks chosen old.root f ≡ tasks chosen old.root d.content → new.frames ≡ old.frames → map (task_of names new.rules.list) new.frames ≡ tasks chosen new.root f
+    same_frames : (f : Forest NamedElement) → tasks chosen old.root f ≡ tasks chosen old.root d.content → new.frames ≡ old.frames → map (task_of names new.rules.list) new.frames ≡ tasks chosen new.root f
     same_frames f same frames =
         ap₂ (λ (rs : RuleTable) (fs : List Frame). map (task_of names rs.list) fs) rules frames ∙ these ∙ sym same
         ∙ ap (λ (j : Job). tasks chosen j f) (sym root)
 
-    more_frames : (f : Frame) (e : ElementStart) → new.frames ≡ old.frames ++ f ∷ [] → task_of names old.rules.list f ≡ entered chosen (last_job old.root now) e →
+    more_frames : (f : Frame) (e : NamedElement) → new.frames ≡ old.frames ++ f ∷ [] → task_of names old.rules.list f ≡ entered chosen (last_job old.root now) e →
         map (task_of names new.rules.list) new.frames ≡ tasks chosen new.root (push_node d.content (first_node (starts e)))
     more_frames f e more is =
         ap₂ (λ (rs : RuleTable) (fs : List Frame). map (task_of names rs.list) fs) rules more
@@ -181,20 +181,20 @@ module _ (sheet : Sheet) (names : NameTable) (invocations : ℕ) (old : Session)
 
     -- ---- a start
 
-    abbrev first_of : ElementStart → Job → Output
+    abbrev first_of : NamedElement → Job → Output
     first_of e i = next (first chosen i e) waiting
 
-    pub start_skipped : (e : ElementStart) (f : Frame) → last_job old.root now ≡ job.Skip → task_of names old.rules.list f ≡ idle → new.frames ≡ old.frames ++ f ∷ [] → new.writer ≡ old.writer → new.state ≡ state.Going →
+    pub start_skipped : (e : NamedElement) (f : Frame) → last_job old.root now ≡ job.Skip → task_of names old.rules.list f ≡ idle → new.frames ≡ old.frames ++ f ∷ [] → new.writer ≡ old.writer → new.state ≡ state.Going →
         StandsOn sheet names invocations new (push d (starts e)) given
     start_skipped e f j t fs w k =
         comes_nothing (starts e) tt (ap (first_of e) j) w k (more_frames f e fs (t ∙ ap (λ (i : Job). entered chosen i e) (sym j)))
 
-    pub start_deep : (e : ElementStart) (left : ℕ) → last_job old.root now ≡ job.Apply left → left ≡ 0 → new.writer ≡ old.writer → new.state ≡ state.Stopped error.Sxli0001 →
+    pub start_deep : (e : NamedElement) (left : ℕ) → last_job old.root now ≡ job.Apply left → left ≡ 0 → new.writer ≡ old.writer → new.state ≡ state.Stopped error.Sxli0001 →
         StandsOn sheet names invocations new (push d (starts e)) given
     start_deep e left j z w k = comes_too_deep (starts e) tt (ap (first_of e) (j ∙ ap job.Apply z)) w k
 
     -- the built-in template of text-only copy is chosen
-    pub start_passed : (e : ElementStart) (f : Frame) (left : ℕ) → last_job old.root now ≡ job.Apply (suc left) → chosen e ≡ built_in false e → task_of names old.rules.list f ≡ task_for left (plan_of left (built_in false e)) →
+    pub start_passed : (e : NamedElement) (f : Frame) (left : ℕ) → last_job old.root now ≡ job.Apply (suc left) → chosen e ≡ built_in false e → task_of names old.rules.list f ≡ task_for left (plan_of left (built_in false e)) →
         new.frames ≡ old.frames ++ f ∷ [] → new.writer ≡ old.writer → new.state ≡ state.Going → StandsOn sheet names invocations new (push d (starts e)) given
     start_passed e f left j chose t fs w k =
         comes_nothing (starts e) tt (ap (first_of e) j ∙ ap (λ (b : Body Name). next (before_of (plan_of left b)) waiting) chose) w k
@@ -212,7 +212,7 @@ module _ (sheet : Sheet) (names : NameTable) (invocations : ℕ) (old : Session)
   -- ---- where something is asked for
 
   -- these come
-  comes : (new : Session) (h : TreeEvent ElementStart) (more : List Asked) → GoesOn h → answers h ≡ out more waits → Wrote old new more →
+  comes : (new : Session) (h : TreeEvent NamedElement) (more : List Asked) → GoesOn h → answers h ≡ out more waits → Wrote old new more →
       map (task_of names new.rules.list) new.frames ≡ tasks chosen new.root (pushed d.content h) → StandsOn sheet names invocations new (push d h) given
   comes new h more g is w frames =
       let both = w.wrote so_far given (error_here sheet names invocations old d given s going) (asked_here sheet names invocations old d given s going) in
@@ -233,7 +233,7 @@ module _ (sheet : Sheet) (names : NameTable) (invocations : ℕ) (old : Session)
       (instruction_frames new w.same_rules w.same_copying w.same_root t c f)
 
   -- an element starts of which a template with this plan is chosen, and all before the children is given
-  pub start_comes : (new : Session) (e : ElementStart) (f : Frame) (left : ℕ) (p : Plan) (more : List Asked) → last_job old.root now ≡ job.Apply (suc left) → plan_of left (chosen e) ≡ p →
+  pub start_comes : (new : Session) (e : NamedElement) (f : Frame) (left : ℕ) (p : Plan) (more : List Asked) → last_job old.root now ≡ job.Apply (suc left) → plan_of left (chosen e) ≡ p →
       before_of p ≡ gives more → task_of names old.rules.list f ≡ task_for left p → Wrote old new more → new.frames ≡ old.frames ++ f ∷ [] → StandsOn sheet names invocations new (push d (starts e)) given
   start_comes new e f left p more j planned before t w fs =
       comes new (starts e) more tt
@@ -243,7 +243,7 @@ module _ (sheet : Sheet) (names : NameTable) (invocations : ℕ) (old : Session)
       (t ∙ ap (task_for left) (sym planned) ∙ ap (λ (i : Job). entered chosen i e) (sym j)))
 
   -- the same, where an attribute before the children is too deep
-  pub start_stops : (new : Session) (e : ElementStart) (left : ℕ) (p : Plan) (more : List Asked) → last_job old.root now ≡ job.Apply (suc left) → plan_of left (chosen e) ≡ p →
+  pub start_stops : (new : Session) (e : NamedElement) (left : ℕ) (p : Plan) (more : List Asked) → last_job old.root now ≡ job.Apply (suc left) → plan_of left (chosen e) ≡ p →
       before_of p ≡ out more (stops error.Sxli0001) → new.rules ≡ old.rules → new.is_copying ≡ old.is_copying → new.root ≡ old.root →
       StandsFor new.writer (so_far ++ more) false given → new.state ≡ state_of (ending_with (error_of (so_far ++ more)) (stops error.Sxli0001)) →
       StandsOn sheet names invocations new (push d (starts e)) given

@@ -2,7 +2,7 @@
 use Rattle.std.proofs.Common.{◌≡◌, ◌≢◌, ℕ, true, false, List, ◌++◌, Option, Some, None}
 use Rattle.sx_atoms.specs.declared.error_codes.Code.{Code}
 use Rattle.sx_kinds.specs.declared.sheets.Sheet.{Sheet}
-use Rattle.sx_named.specs.Named.{ElementStart}
+use Rattle.sx_named.specs.Named.{NamedElement}
 use Rattle.sx_tree.specs.Tree.{TreeEvent, tree_of}
 use Rattle.sx_build.specs.Build.{error_of}
 use Rattle.sx_machine.specs.Body.{culprit}
@@ -28,23 +28,23 @@ settled_end None waits h e = h
 settled_end None (stops c) h e = absurd (cc)
 
 module _ (sheet : Sheet) (streamable : culprit sheet.templates ≡ None) (names : NameTable) (invocations : ℕ) where
-  pub all_good : (e : ElementStart) → IsGood (chosen_for names (is_copying_first sheet.modes) sheet.templates e)
+  pub all_good : (e : NamedElement) → IsGood (chosen_for names (is_copying_first sheet.modes) sheet.templates e)
   all_good e = good_chosen names (is_copying_first sheet.modes) e sheet.templates streamable
 
   -- more only adds
-  pub grown : (p more : List (TreeEvent ElementStart)) → MayAllCome p more → IsGrown (result_for sheet names invocations p) (result_for sheet names invocations (p ++ more))
+  pub grown : (p more : List (TreeEvent NamedElement)) → MayAllCome p more → IsGrown (result_for sheet names invocations p) (result_for sheet names invocations (p ++ more))
   grown p more may =
       result_grown (meaning_on sheet names invocations (tree_of p)) (meaning_on sheet names invocations (tree_of (p ++ more)))
       (on_all (is_copying_first sheet.modes) (chosen_for names (is_copying_first sheet.modes) sheet.templates) all_good invocations p more may)
 
   -- while the document is open the result is not whole
-  pub open_not_done : (p : List (TreeEvent ElementStart)) → (tree_of p).is_open ≡ true → (result_for sheet names invocations p).ending ≢ done
+  pub open_not_done : (p : List (TreeEvent NamedElement)) → (tree_of p).is_open ≡ true → (result_for sheet names invocations p).ending ≢ done
   open_not_done p o =
       going_end (error_of (meaning_on sheet names invocations (tree_of p)).raw) (meaning_on sheet names invocations (tree_of p)).ending
       (open_going (is_copying_first sheet.modes) (chosen_for names (is_copying_first sheet.modes) sheet.templates) all_good invocations (tree_of p) o)
 
   -- once the document is closed the result waits for nothing
-  pub closed_not_waiting : (p : List (TreeEvent ElementStart)) → (tree_of p).is_open ≡ false → (result_for sheet names invocations p).ending ≢ waits
+  pub closed_not_waiting : (p : List (TreeEvent NamedElement)) → (tree_of p).is_open ≡ false → (result_for sheet names invocations p).ending ≢ waits
   closed_not_waiting p o =
       settled_end (error_of (meaning_on sheet names invocations (tree_of p)).raw) (meaning_on sheet names invocations (tree_of p)).ending
       (closed_settled (is_copying_first sheet.modes) (chosen_for names (is_copying_first sheet.modes) sheet.templates) all_good invocations (tree_of p) o)

@@ -1,6 +1,6 @@
 -- Which template is chosen for an element, or else what the built-in one does (XSLT 3.0, 6.4, 6.5 and 6.7).
 use Rattle.std.specs.Prelude.{ℕ, Bool, true, false, ◌&&◌, bytes_eq, List, [], ◌∷◌, Option, Some, None, slice_get, if◌then◌else◌}
-use Rattle.sx_named.specs.Named.{Name, ElementStart}
+use Rattle.sx_named.specs.Named.{Name, NamedElement}
 use Rattle.sx_kinds.specs.declared.constructs.NamePattern.{NamePattern}
 use Rattle.sx_kinds.specs.declared.sheets.Template.{Template}
 use Rattle.sx_machine.specs.Body.{Body, nil, literal, copies, apply, body_of, written_out}
@@ -33,7 +33,7 @@ matches names name t = pattern_passes (λ n. is_name name (slice_get names n)) t
 
 -- the content of the built-in template: it applies templates to the children; shallow copy does that in a copy of the
 -- element, behind its attributes
-abbrev pub built_in : Bool → ElementStart → Body Name
+abbrev pub built_in : Bool → NamedElement → Body Name
 built_in false e = apply nil
 built_in true e = literal 0 e.name (copies e.attributes (apply nil)) nil
 
@@ -44,5 +44,5 @@ body_or names built_in (Some t) = written_out names (body_of t.body)
 
 -- The body for an element, where nodes that no template matches are or are not copied: all priorities are equal, so the last
 -- template that matches is chosen.
-abbrev pub chosen_for : NameTable → Bool → List Template → ElementStart → Body Name
+abbrev pub chosen_for : NameTable → Bool → List Template → NamedElement → Body Name
 chosen_for names is_copying templates e = body_or names (built_in is_copying e) (last_that (matches names e.name) templates)

@@ -5,7 +5,7 @@ use Rattle.sx_kinds.specs.declared.sheets.OnNoMatch.{OnNoMatch}
 use Rattle.sx_kinds.specs.declared.sheets.OnNoMatch.TheVariants as unmatched
 use Rattle.sx_kinds.specs.declared.sheets.Sheet.{Sheet}
 use Rattle.sx_tree.specs.Tree.{Document, TreeEvent, tree_of}
-use Rattle.sx_named.specs.Named.{ElementStart}
+use Rattle.sx_named.specs.Named.{NamedElement}
 use Rattle.sx_machine.specs.Body.{culprit, AreKnown}
 use Rattle.sx_machine.specs.Choice.{chosen_for}
 use Rattle.sx_machine.specs.Run.{Output, Result, meaning, result_of}
@@ -37,10 +37,10 @@ pub record IsReady (sheet : Sheet) (names : NameTable) : Type 0 where
   pub known : AreKnown (length names) sheet.templates
 
 -- what the stylesheet asks for on an open tree, where so many invocations may be open
-abbrev pub meaning_on : Sheet → NameTable → ℕ → Document ElementStart → Output
+abbrev pub meaning_on : Sheet → NameTable → ℕ → Document NamedElement → Output
 meaning_on sheet names invocations d =
     meaning (is_copying_first sheet.modes) (chosen_for names (is_copying_first sheet.modes) sheet.templates) invocations d
 
 -- the result of the stylesheet on the open tree of what has happened
-abbrev pub result_for : Sheet → NameTable → ℕ → List (TreeEvent ElementStart) → Result
+abbrev pub result_for : Sheet → NameTable → ℕ → List (TreeEvent NamedElement) → Result
 result_for sheet names invocations p = result_of (meaning_on sheet names invocations (tree_of p))

@@ -3,7 +3,7 @@ use Rattle.std.specs.Prelude.{◌≡◌, ℕ, zero, suc, Option, Some, None, Boo
 use Rattle.sx_atoms.specs.declared.error_codes.Code.TheVariants as error
 use Rattle.sx_kinds.specs.declared.sheets.Sheet.{Sheet}
 use Rattle.sx_tree.specs.Tree.{Document, TreeEvent, tree_of}
-use Rattle.sx_named.specs.Named.{ElementStart}
+use Rattle.sx_named.specs.Named.{NamedElement}
 use Rattle.sx_build.specs.Asked.{Asked}
 use Rattle.sx_build.specs.Build.{Build, error_of}
 use Rattle.sx_machine.specs.declared.plans.Rule.{Rule}
@@ -89,7 +89,7 @@ pub record Builds (s : Session) (all : List Asked) (result : Result) (given : �
 
 -- The session is what this stylesheet has on an open tree, where there may be so many invocations, and so many built events
 -- were taken from it. Names are those that it was started with.
-pub record StandsOn (sheet : Sheet) (names : NameTable) (invocations : ℕ) (s : Session) (d : Document ElementStart) (given : ℕ) : Type 0 where
+pub record StandsOn (sheet : Sheet) (names : NameTable) (invocations : ℕ) (s : Session) (d : Document NamedElement) (given : ℕ) : Type 0 where
   pub ready : IsReady sheet names
   pub rules_are : AreRulesOf sheet.templates s.rules.list
   pub places_are : FindsLast s.rules
@@ -109,5 +109,5 @@ pub record Wrote (old new : Session) (more : List Asked) : Type 0 where
       → StandsFor new.writer (asked ++ more) false given × (new.state ≡ state_of (ending_with (error_of (asked ++ more)) waits))
 
 -- the session is what this stylesheet has after what has happened
-abbrev pub Stands : Sheet → NameTable → ℕ → Session → List (TreeEvent ElementStart) → ℕ → Type 0
+abbrev pub Stands : Sheet → NameTable → ℕ → Session → List (TreeEvent NamedElement) → ℕ → Type 0
 Stands sheet names invocations s p given = StandsOn sheet names invocations s (tree_of p) given

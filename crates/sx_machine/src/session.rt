@@ -165,7 +165,7 @@ impl Session {
     ghost use Rattle.sx_machine.specs.Growth.{MayCome};
     ghost use Rattle.sx_machine.specs.Meaning.{IsReady, result_for};
     ghost use Rattle.sx_machine.specs.Session.{StandsOn, Stands, Wrote, step_of, is_spent};
-    ghost use Rattle.sx_named.specs.Named.{ElementStart, named, name_at, attributes_at, IsKnown};
+    ghost use Rattle.sx_named.specs.Named.{NamedElement, named_in_tree, name_at, attributes_at, IsKnown};
     ghost use Rattle.sx_tree.specs.Tree.{Document, TreeEvent, push, starts, ends, says, instructs, closes, has_open};
 
     /// A session of a stylesheet that was fed nothing, where so many invocations of templates may be open at once, one of
@@ -193,9 +193,9 @@ impl Session {
     /// Takes the next event of the document. It answers an error exactly where the result for the events ends in it, and
     /// goes on to answer that. After an `AllocError` the session is spent: each later call that takes an event answers one.
     pub fn feed(&mut self, e: Event, names: &mut Names) -> Result<Step, AllocError>
-        ensures stands { OnOk result ((sheet : Stylesheet) (known : NameTable) (invocations : ℕ) (p : List (TreeEvent ElementStart)) (given : ℕ)
-            → KeepsPlaces known names.old → IsDistinct names.old → IsKnown names.old e → MayCome p (named names.old e)
-            → Stands sheet known invocations self.old p given → Stands sheet known invocations self.new (p ++ named names.old e ∷ []) given) }
+        ensures stands { OnOk result ((sheet : Stylesheet) (known : NameTable) (invocations : ℕ) (p : List (TreeEvent NamedElement)) (given : ℕ)
+            → KeepsPlaces known names.old → IsDistinct names.old → IsKnown names.old e → MayCome p (named_in_tree names.old e)
+            → Stands sheet known invocations self.old p given → Stands sheet known invocations self.new (p ++ named_in_tree names.old e ∷ []) given) }
         ensures answer { IfOk result (λ step. step ≡ step_of self.new.state) }
         ensures names { names.new ≡ names.old }
         ensures err { OnErr result (is_spent self.new ≡ true) }
@@ -219,7 +219,7 @@ impl Session {
 
     /// Is told that the document has ended well: it is fed `Event::Close`.
     pub fn finish(&mut self, names: &mut Names) -> Result<Step, AllocError>
-        ensures stands { OnOk result ((sheet : Stylesheet) (known : NameTable) (invocations : ℕ) (p : List (TreeEvent ElementStart)) (given : ℕ)
+        ensures stands { OnOk result ((sheet : Stylesheet) (known : NameTable) (invocations : ℕ) (p : List (TreeEvent NamedElement)) (given : ℕ)
             → KeepsPlaces known names.old → IsDistinct names.old → MayCome p closes
             → Stands sheet known invocations self.old p given → Stands sheet known invocations self.new (p ++ closes ∷ []) given) }
         ensures answer { IfOk result (λ step. step ≡ step_of self.new.state) }
@@ -233,7 +233,7 @@ impl Session {
 
     /// The built events that are fixed and were not cleared yet, in order.
     pub fn output(&self) -> &[Built]
-        ensures { (sheet : Stylesheet) (known : NameTable) (invocations : ℕ) (p : List (TreeEvent ElementStart)) (given : ℕ)
+        ensures { (sheet : Stylesheet) (known : NameTable) (invocations : ℕ) (p : List (TreeEvent NamedElement)) (given : ℕ)
             → Stands sheet known invocations self.now p given → result.now ≡ drop given (result_for sheet known invocations p).built }
     {
         self.writer.output()
@@ -241,7 +241,7 @@ impl Session {
 
     /// Drops the built events that are fixed: they were taken. It takes no memory.
     pub fn clear_output(&mut self)
-        ensures stands { (sheet : Stylesheet) (known : NameTable) (invocations : ℕ) (p : List (TreeEvent ElementStart)) (given : ℕ)
+        ensures stands { (sheet : Stylesheet) (known : NameTable) (invocations : ℕ) (p : List (TreeEvent NamedElement)) (given : ℕ)
             → Stands sheet known invocations self.old p given
             → Stands sheet known invocations self.new p (length (result_for sheet known invocations p).built) }
         ensures state { self.new.state ≡ self.old.state }
@@ -269,9 +269,9 @@ impl Session {
     // Takes an event where the session goes on.
     fn take(&mut self, e: Event, names: &Names) -> Result<(), AllocError>
         requires { self.old.state ≡ state.Going }
-        ensures stands { OnOk result ((sheet : Stylesheet) (known : NameTable) (invocations : ℕ) (p : List (TreeEvent ElementStart)) (given : ℕ)
-            → KeepsPlaces known names.now → IsDistinct names.now → IsKnown names.now e → MayCome p (named names.now e)
-            → Stands sheet known invocations self.old p given → Stands sheet known invocations self.new (p ++ named names.now e ∷ []) given) }
+        ensures stands { OnOk result ((sheet : Stylesheet) (known : NameTable) (invocations : ℕ) (p : List (TreeEvent NamedElement)) (given : ℕ)
+            → KeepsPlaces known names.now → IsDistinct names.now → IsKnown names.now e → MayCome p (named_in_tree names.now e)
+            → Stands sheet known invocations self.old p given → Stands sheet known invocations self.new (p ++ named_in_tree names.now e ∷ []) given) }
         ensures kept { OnOk result (is_spent self.new ≡ false) }
     {
         match e {
@@ -289,7 +289,7 @@ impl Session {
     // The document is closed.
     fn close(&mut self)
         requires { self.old.state ≡ state.Going }
-        ensures stands { (sheet : Stylesheet) (known : NameTable) (invocations : ℕ) (d : Document ElementStart) (given : ℕ)
+        ensures stands { (sheet : Stylesheet) (known : NameTable) (invocations : ℕ) (d : Document NamedElement) (given : ℕ)
             → d.is_open ≡ true → has_open d.content ≡ false
             → StandsOn sheet known invocations self.old d given → StandsOn sheet known invocations self.new (push d closes) given }
         ensures kept { is_spent self.new ≡ false }
@@ -301,7 +301,7 @@ impl Session {
     // An element starts.
     fn start_element(&mut self, label: Label, attrs: Attrs, names: &Names) -> Result<(), AllocError>
         requires { self.old.state ≡ state.Going }
-        ensures ok { OnOk result ((sheet : Stylesheet) (known : NameTable) (invocations : ℕ) (d : Document ElementStart) (e : ElementStart) (given : ℕ)
+        ensures ok { OnOk result ((sheet : Stylesheet) (known : NameTable) (invocations : ℕ) (d : Document NamedElement) (e : NamedElement) (given : ℕ)
             → KeepsPlaces known names.now → IsDistinct names.now → label.number < length names.now
             → e.name ≡ name_at names.now label → e.attributes ≡ attributes_at names.now attrs → d.is_open ≡ true
             → StandsOn sheet known invocations self.old d given → StandsOn sheet known invocations self.new (push d (starts e)) given) }
@@ -331,7 +331,7 @@ impl Session {
         names: &Names,
     ) -> Result<(), AllocError>
         requires { self.old.state ≡ state.Going }
-        ensures ok { OnOk result ((sheet : Stylesheet) (known : NameTable) (invocations : ℕ) (d : Document ElementStart) (e : ElementStart) (given : ℕ)
+        ensures ok { OnOk result ((sheet : Stylesheet) (known : NameTable) (invocations : ℕ) (d : Document NamedElement) (e : NamedElement) (given : ℕ)
             → KeepsPlaces known names.now → IsDistinct names.now → label.number < length names.now
             → e.name ≡ name_at names.now label → e.attributes ≡ attributes_at names.now attrs → d.is_open ≡ true
             → last_job self.old.root (map (task_of known self.old.rules.list) self.old.frames) ≡ job.Apply (suc left)
@@ -352,7 +352,7 @@ impl Session {
     fn invoke(&mut self, left: u64, place: usize, names: &Names) -> Result<(), AllocError>
         requires going { self.old.state ≡ state.Going }
         requires within { place < length self.old.rules.list }
-        ensures ok { OnOk result ((sheet : Stylesheet) (known : NameTable) (invocations : ℕ) (d : Document ElementStart) (e : ElementStart) (given : ℕ)
+        ensures ok { OnOk result ((sheet : Stylesheet) (known : NameTable) (invocations : ℕ) (d : Document NamedElement) (e : NamedElement) (given : ℕ)
             → KeepsPlaces known names.now
             → ((r : RuleOf) → slice_get self.old.rules.list place ≡ Some r
             → plan_of left (chosen_for known (is_copying_first sheet.modes) sheet.templates e) ≡ read_plan known r.plan) → d.is_open ≡ true
@@ -380,7 +380,7 @@ impl Session {
         names: &Names,
     ) -> Result<(), AllocError>
         requires { self.old.state ≡ state.Going }
-        ensures ok { OnOk result ((sheet : Stylesheet) (known : NameTable) (invocations : ℕ) (d : Document ElementStart) (e : ElementStart) (given : ℕ)
+        ensures ok { OnOk result ((sheet : Stylesheet) (known : NameTable) (invocations : ℕ) (d : Document NamedElement) (e : NamedElement) (given : ℕ)
             → e.name ≡ name_at names.now label → e.attributes ≡ attributes_at names.now attrs
             → chosen_for known (is_copying_first sheet.modes) sheet.templates e ≡ built_in true e → d.is_open ≡ true
             → last_job self.old.root (map (task_of known self.old.rules.list) self.old.frames) ≡ job.Apply (suc left)
@@ -404,7 +404,7 @@ impl Session {
     // The innermost open element ends, if one is open.
     fn end_element(&mut self, names: &Names) -> Result<(), AllocError>
         requires { self.old.state ≡ state.Going }
-        ensures ok { OnOk result ((sheet : Stylesheet) (known : NameTable) (invocations : ℕ) (d : Document ElementStart) (given : ℕ)
+        ensures ok { OnOk result ((sheet : Stylesheet) (known : NameTable) (invocations : ℕ) (d : Document NamedElement) (given : ℕ)
             → KeepsPlaces known names.now → d.is_open ≡ true
             → StandsOn sheet known invocations self.old d given → StandsOn sheet known invocations self.new (push d ends) given) }
         ensures kept { OnOk result (is_spent self.new ≡ false) }
@@ -448,7 +448,7 @@ impl Session {
     // A text comes: the built-in template copies it.
     fn say(&mut self, text: Chars, names: &Names) -> Result<(), AllocError>
         requires { self.old.state ≡ state.Going }
-        ensures ok { OnOk result ((sheet : Stylesheet) (known : NameTable) (invocations : ℕ) (d : Document ElementStart) (given : ℕ)
+        ensures ok { OnOk result ((sheet : Stylesheet) (known : NameTable) (invocations : ℕ) (d : Document NamedElement) (given : ℕ)
             → d.is_open ≡ true
             → StandsOn sheet known invocations self.old d given → StandsOn sheet known invocations self.new (push d (says text)) given) }
         ensures kept { OnOk result (is_spent self.new ≡ false) }
@@ -468,7 +468,7 @@ impl Session {
     // A processing instruction comes: the built-in template copies it, or gives nothing.
     fn instruct(&mut self, target: Chars, content: Chars, names: &Names) -> Result<(), AllocError>
         requires { self.old.state ≡ state.Going }
-        ensures ok { OnOk result ((sheet : Stylesheet) (known : NameTable) (invocations : ℕ) (d : Document ElementStart) (given : ℕ)
+        ensures ok { OnOk result ((sheet : Stylesheet) (known : NameTable) (invocations : ℕ) (d : Document NamedElement) (given : ℕ)
             → d.is_open ≡ true
             → StandsOn sheet known invocations self.old d given
             → StandsOn sheet known invocations self.new (push d (instructs target content)) given) }
