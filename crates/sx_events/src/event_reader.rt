@@ -30,7 +30,7 @@ pub enum Ending {
 ///
 /// It keeps the bytes of the line that has begun, the names of the open elements and the namespaces that they declare, the
 /// attribute lines that wait for their start, or the memory of earlier ones, the run of text that may go on, and at most two
-/// events. After an `AllocError` of `next` it is spent, and answers that error from then on.
+/// events. After an `AllocError` it is spent, and answers that error from then on.
 #[derive(Drop)]
 pub struct EventReader {
     limits: Limits,
@@ -83,11 +83,12 @@ impl EventReader {
     }
 
     /// Takes the next bytes. Behind the limit of a document, and where the bytes were broken off, they are dropped. After
-    /// an `AllocError` the reader stands as before.
+    /// an `AllocError` the reader is spent, and still stands for what it was fed before.
     pub fn feed(&mut self, piece: &[u8]) -> Result<(), AllocError>
         ensures fed { OnOk result ((limits : Limits) (names : NameTable) (b : List ℕ) (given : ℕ) → EventsStand self.old limits names b false given → EventsStand self.new limits names (b ++ piece.now) false given) }
         ensures err { OnErr result ((limits : Limits) (names : NameTable) (b : List ℕ) (ended : Bool) (given : ℕ) → EventsStand self.old limits names b ended given → EventsStand self.new limits names b ended given) }
-        ensures same { is_spent self.new ≡ is_spent self.old }
+        ensures lost { OnErr result (is_spent self.new ≡ true) }
+        ensures stays { OnOk result (is_spent self.new ≡ false) }
         ensures spent { IsTrue (is_spent self.old) → IsErr result }
     {
         if self.spent {
@@ -98,15 +99,22 @@ impl EventReader {
         }
         let count = count_looked_at(self.limits.bytes, self.total, piece);
         let (front, _) = piece.split_at(count);
-        self.lines.feed(front)?;
+        match self.lines.feed(front) {
+            Ok(()) => {}
+            Err(error) => {
+                self.spent = true;
+                return Err(error);
+            }
+        }
         self.total = self.total.saturating_add(piece.len() as u64);
         Ok(())
     }
 
-    /// Says that there are no more bytes.
+    /// Says that there are no more bytes. It takes no memory, and answers an error only where the reader is spent.
     pub fn finish(&mut self) -> Result<(), AllocError>
         ensures told { OnOk result ((limits : Limits) (names : NameTable) (b : List ℕ) (given : ℕ) → EventsStand self.old limits names b false given → EventsStand self.new limits names b true given) }
         ensures err { OnErr result (self.new ≡ self.old) }
+        ensures only { OnErr result (is_spent self.old ≡ true) }
         ensures same { is_spent self.new ≡ is_spent self.old }
         ensures spent { IsTrue (is_spent self.old) → IsErr result }
     {

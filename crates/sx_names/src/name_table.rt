@@ -1,5 +1,5 @@
 // Names and their numbers. A name is kept as the numbers of its two texts, so that a look-up copies nothing.
-ghost use Rattle.std.specs.Prelude.{◌≡◌, ℕ, ◌<◌, ◌↔◌, nat_lt, [], length, slice_get, Some, IfSome, IfNone, IfOk, OnErr, MatchResult};
+ghost use Rattle.std.specs.Prelude.{◌≡◌, ℕ, Ok, ◌<◌, ◌↔◌, nat_lt, [], length, slice_get, Some, IfSome, IfNone, IfOk, OnErr, MatchResult};
 ghost use Rattle.sx_names.specs.Numbering.{IsDistinct, IsAbsent, KeepsPlaces, IsNumbered, uri_at, local_at};
 
 use crate::text_table::Texts;
@@ -52,6 +52,7 @@ impl Names {
     /// The number of the name, which is the next free one if the name is new. A name that is there needs no memory.
     pub fn intern(&mut self, uri: &str, local: &str) -> Result<u64, AllocError>
         ensures numbered { IfOk result (λ n. IsNumbered self.old (uri.now, local.now) n self.new) }
+        ensures known { (n : ℕ) → slice_get self.old n ≡ Some (uri.now, local.now) → result ≡ Ok n }
         ensures placed { IfOk result (λ n. slice_get self.new n ≡ Some (uri.now, local.now)) }
         ensures within { IfOk result (λ n. n < length self.new) }
         ensures kept { KeepsPlaces self.old self.new }
