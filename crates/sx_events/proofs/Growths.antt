@@ -3,7 +3,8 @@ use Rattle.std.proofs.Common.{◌≡◌, ℕ, Bool, true, false, not, ◌&&◌, 
 use Rattle.sx_esis.specs.Lines as esis
 use Rattle.sx_esis.specs.Lines.{Line, Reading, lines_of}
 use Rattle.sx_esis.proofs.Grow.{reading_grows, fault_stays}
-use Rattle.sx_named.specs.Named.{ElementStart}
+use Rattle.sx_named.specs.Named.{ElementStart, in_tree, all_in_tree}
+use Rattle.std.proofs.lemmas.List.{map-append}
 use Rattle.sx_tree.specs.Tree.{TreeEvent}
 use Rattle.sx_events.specs.Course.{Lined, Course, course, course_of, reading, is_beyond, or_else, last_fault, last_events, run_of, break_of, events_of, whats, put_events}
 use Rattle.sx_events.specs.Laws.{Grows, StaysBroken}
@@ -146,7 +147,14 @@ module _ (limits : Limits) (b d : List ℕ) (ended : Bool) where
   broken_stays g h = stays_by g h (cause old.fault (reading limits b false).fault (is_beyond limits b) refl refl refl g h)
 
   grown : (more : List Lined) → events_of limits (b ++ d) ended ≡ events_of limits b false ++ more → Grows limits b d ended
-  grown more is = record { more = more; events = is; happenings = ap whats is ∙ whats-append (events_of limits b false) more }
+  grown more is =
+      let read = ap whats is ∙ whats-append (events_of limits b false) more in
+      record {
+        more = more;
+        events = is;
+        read = read;
+        in_tree = ap all_in_tree read ∙ map-append in_tree (whats (events_of limits b false)) (whats more);
+      }
 
   no_fault : (fault : Option DocFault) (p : Place) (f : Option esis.Fault) (beyond at_end : Bool) → broken_with fault p f beyond at_end ≡ None → fault ≡ None
   no_fault None p f beyond at_end h = refl

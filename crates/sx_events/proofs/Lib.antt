@@ -13,3 +13,4 @@ pub mod Endings
 pub mod Readings
 pub mod Feedings
 pub mod Values
+pub mod InTrees

@@ -1,8 +1,8 @@
 // What the definitions come to.
 ghost use Rattle.std.specs.Prelude.{◌≡◌, ◌≢◌, ◌<◌, ℕ, Bool, true, false, List, [], length, Some, None};
 ghost use Rattle.sx_tree.specs.Tree.{has_open};
-ghost use Rattle.sx_events.specs.Course.{break_of, events_of, whats};
-ghost use Rattle.sx_events.specs.Laws.{AllFollow, Grows, StaysBroken, tree};
+ghost use Rattle.sx_events.specs.Course.{break_of};
+ghost use Rattle.sx_events.specs.Laws.{AllFollow, Grows, StaysBroken, tree, tree_events_of};
 ghost use Rattle.sx_limits.specs.declared.faults.DocFault.{DocFault};
 ghost use Rattle.sx_limits.specs.declared.limits.Limits.{Limits};
 
@@ -12,9 +12,9 @@ pub fn growth()
     ensures broken { (limits : Limits) (b d : List ℕ) (ended : Bool) (fault : DocFault) → break_of limits b false ≡ Some fault → StaysBroken limits b d ended fault }
 {}
 
-/// Each event may happen behind those before it.
+/// Each event may follow those before it.
 pub fn follow()
-    ensures { (limits : Limits) (b : List ℕ) (ended : Bool) → AllFollow [] (whats (events_of limits b ended)) }
+    ensures { (limits : Limits) (b : List ℕ) (ended : Bool) → AllFollow [] (tree_events_of limits b ended) }
 {}
 
 /// The tree of the events is closed where the bytes have ended and are not broken off, and else it is open. More bytes

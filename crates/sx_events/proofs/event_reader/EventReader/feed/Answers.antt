@@ -1,5 +1,4 @@
 use Rattle.std.proofs.Common.{◌≡◌, ◌++◌, ◌-◌, ◌^◌, ◌≤◌, ℕ, List, min, false, length, length-append, refl, ap, sym, ◌∙◌, subst, arith}
-use Rattle.std.proofs.lemmas.Result.{err_from_is_err_and}
 use Rattle.sx_esis.specs.LineReader as reader
 use Rattle.sx_events.specs.Course.{looked_at}
 use Rattle.sx_limits.specs.declared.limits.Limits.{Limits}
@@ -10,10 +9,10 @@ use Rattle.sx_events.proofs.event_reader.EventReader.feed.Goals as goal
 pub returns-then-is_some-clause-fed : goal.returns-then-is_some-clause-fed
 returns-then-is_some-clause-fed c = λ limits names b given stands. stands_fed c.args.self.now limits names b c.args.piece.now given (sym c.is_some.ensures ∙ c.if-is_some.true) stands
 
-pub returns-in_err-feed-clause-err : goal.returns-in_err-feed-clause-err
-returns-in_err-feed-clause-err c =
-    let p = err_from_is_err_and c.from_residual.result c.from_residual.ensures.1 in
-    rw p.1 (λ limits names b ended given stands. same_at c.args.self.now.ending c.args.self.now _ limits names b ended given refl refl
+pub returns-in-Err-clause-err : goal.returns-in-Err-clause-err
+returns-in-Err-clause-err c = λ limits names b ended given stands.
+    let failed = rw c.in-Err.is at c.feed.ensures.err in
+    same_at c.args.self.now.ending c.args.self.now _ limits names b ended given refl refl
     (λ going.
     let a = going.along in
     record {
@@ -23,12 +22,12 @@ returns-in_err-feed-clause-err c =
         front = a.front;
         more = a.more;
         lines = a.lines;
-        reads = c.in_err-feed.ensures.err limits.line _ _ _ a.reads;
+        reads = failed limits.line _ _ _ a.reads;
         sound = a.sound;
         knows = a.knows;
         pends = a.pends;
       };
-    }) stands)
+    }) stands
 
 pub returns-clause-fed : goal.returns-clause-fed
 returns-clause-fed c = λ limits names b given stands.
@@ -46,5 +45,5 @@ returns-clause-fed c = λ limits names b given stands.
     stands_going _ limits names (b ++ piece) false given none (record {
       counted = record { same = going.counted.same; total = now; told = going.counted.told };
       along = along_more s.lines c.feed.new.self s.standing s.pending limits names b piece false given s.line a
-          (subst (λ (x : List ℕ). reader.LinesStand c.feed.new.self limits.line x false (length a.front)) (sym looks) (c.in_ok-feed.ensures.ok limits.line _ _ a.reads));
+          (subst (λ (x : List ℕ). reader.LinesStand c.feed.new.self limits.line x false (length a.front)) (sym looks) ((rw c.in-Ok.is at c.feed.ensures.ok) limits.line _ _ a.reads));
     })
