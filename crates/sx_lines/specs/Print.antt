@@ -1,8 +1,12 @@
 -- How built events are printed, as lines of ESIS.
-use Rattle.std.specs.Prelude.{ℕ, ◌+◌, ◌/◌, ◌%◌, Bool, true, false, ◌||◌, List, [], ◌∷◌, ◌++◌, if◌then◌else◌, nat_eq, nat_lt}
+use Rattle.std.specs.Prelude.{◌≡◌, ℕ, ◌+◌, ◌/◌, ◌%◌, Bool, true, false, ◌||◌, List, [], ◌∷◌, ◌++◌, if◌then◌else◌, nat_eq, nat_lt}
 use Rattle.sx_lines.specs.declared.events.Pair.{Pair}
 use Rattle.sx_lines.specs.declared.events.Built.{Built}
 use Rattle.sx_lines.specs.declared.events.Built.TheVariants as event
+
+-- bytes behind these, which are still there
+abbrev pub IsFront : List ℕ → List ℕ → Type 0
+IsFront front bytes = (more : List ℕ) × (bytes ≡ front ++ more)
 
 -- a number below 512 by three octal digits
 abbrev pub octal : ℕ → List ℕ

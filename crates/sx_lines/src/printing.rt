@@ -1,6 +1,6 @@
 // Events printed as lines of ESIS.
-ghost use Rattle.std.specs.Prelude.{◌≡◌, ◌<◌, ◌≤◌, [], ◌∷◌, ◌++◌, length, take, drop, IsTrue, OnOk, IfOk};
-ghost use Rattle.sx_lines.specs.Print.{escaped, escape, newline_after, line, pair_line, pair_lines, content_part, text_mark, printed, ending_of};
+ghost use Rattle.std.specs.Prelude.{◌≡◌, ◌<◌, ◌≤◌, [], ◌∷◌, ◌++◌, false, length, take, drop, IsTrue, OnOk, IfOk};
+ghost use Rattle.sx_lines.specs.Print.{escaped, escape, newline_after, line, pair_line, pair_lines, content_part, text_mark, printed, ending_of, IsFront};
 
 use crate::{Built, Pair};
 use std::alloc::{AllocError, Global};
@@ -27,7 +27,8 @@ fn plain_len(text: &[u8]) -> usize
 
 // Appends one byte, escaped.
 fn append_byte(out: &mut Vec<u8>, byte: u8) -> Result<(), AllocError>
-    ensures { OnOk result (out.new.items ≡ out.old.items ++ escaped byte) }
+    ensures ok { OnOk result (out.new.items ≡ out.old.items ++ escaped byte) }
+    ensures front { IsFront out.old.items out.new.items }
 {
     if byte == b'\\' {
         return Ok(out.extend_from_slice(b"\\\\")?);
@@ -53,6 +54,7 @@ fn append_first<'a>(out: &mut Vec<u8>, text: &'a [u8]) -> Result<&'a [u8], Alloc
     ensures escaped { IfOk result (λ rest. out.new.items ++ escape rest.now ≡ out.old.items ++ escape text.now) }
     ensures shorter { IfOk result (λ rest. length rest.now ≤ length text.now) }
     ensures less { IfOk result (λ rest. 0 < length text.now → length rest.now < length text.now) }
+    ensures front { IsFront out.old.items out.new.items }
 {
     match text.split_first() {
         Some((byte, rest)) => {
@@ -65,7 +67,8 @@ fn append_first<'a>(out: &mut Vec<u8>, text: &'a [u8]) -> Result<&'a [u8], Alloc
 
 // Appends a text, escaped: runs of bytes that stand for themselves at once.
 fn append_escaped(out: &mut Vec<u8>, text: &[u8]) -> Result<(), AllocError>
-    ensures { OnOk result (out.new.items ≡ out.old.items ++ escape text.now) }
+    ensures ok { OnOk result (out.new.items ≡ out.old.items ++ escape text.now) }
+    ensures front { IsFront out.old.items out.new.items }
 {
     let mut rest = text;
     while !rest.is_empty() {
@@ -78,7 +81,8 @@ fn append_escaped(out: &mut Vec<u8>, text: &[u8]) -> Result<(), AllocError>
 
 // Ends a text line that is unfinished.
 fn finish_text(out: &mut Vec<u8>, after_text: bool) -> Result<(), AllocError>
-    ensures { OnOk result (out.new.items ≡ out.old.items ++ newline_after after_text) }
+    ensures ok { OnOk result (out.new.items ≡ out.old.items ++ newline_after after_text) }
+    ensures front { IsFront out.old.items out.new.items }
 {
     if after_text {
         out.push(b'\n')?;
@@ -89,7 +93,8 @@ fn finish_text(out: &mut Vec<u8>, after_text: bool) -> Result<(), AllocError>
 
 // Appends a line that is a first character and a name.
 fn append_line(out: &mut Vec<u8>, first: u8, name: &str) -> Result<(), AllocError>
-    ensures { OnOk result (out.new.items ≡ out.old.items ++ line first name.now) }
+    ensures ok { OnOk result (out.new.items ≡ out.old.items ++ line first name.now) }
+    ensures front { IsFront out.old.items out.new.items }
 {
     out.push(first)?;
     out.extend_from_slice(name.as_bytes())?;
@@ -99,7 +104,8 @@ fn append_line(out: &mut Vec<u8>, first: u8, name: &str) -> Result<(), AllocErro
 
 // Appends the line of an attribute.
 fn append_pair(out: &mut Vec<u8>, pair: &Pair) -> Result<(), AllocError>
-    ensures { OnOk result (out.new.items ≡ out.old.items ++ pair_line pair.now) }
+    ensures ok { OnOk result (out.new.items ≡ out.old.items ++ pair_line pair.now) }
+    ensures front { IsFront out.old.items out.new.items }
 {
     out.push(b'A')?;
     out.extend_from_slice(pair.name.as_str().as_bytes())?;
@@ -111,7 +117,8 @@ fn append_pair(out: &mut Vec<u8>, pair: &Pair) -> Result<(), AllocError>
 
 // Appends the lines of attributes.
 fn append_pairs(out: &mut Vec<u8>, pairs: &[Pair]) -> Result<(), AllocError>
-    ensures { OnOk result (out.new.items ≡ out.old.items ++ pair_lines pairs.now) }
+    ensures ok { OnOk result (out.new.items ≡ out.old.items ++ pair_lines pairs.now) }
+    ensures front { IsFront out.old.items out.new.items }
 {
     for pair in pairs {
         append_pair(out, pair)?;
@@ -121,7 +128,8 @@ fn append_pairs(out: &mut Vec<u8>, pairs: &[Pair]) -> Result<(), AllocError>
 
 // Appends the content of a processing instruction, where it is not empty, behind a space.
 fn append_content(out: &mut Vec<u8>, content: &[u8]) -> Result<(), AllocError>
-    ensures { OnOk result (out.new.items ≡ out.old.items ++ content_part content.now) }
+    ensures ok { OnOk result (out.new.items ≡ out.old.items ++ content_part content.now) }
+    ensures front { IsFront out.old.items out.new.items }
 {
     if content.is_empty() {
         return Ok(());
@@ -132,7 +140,8 @@ fn append_content(out: &mut Vec<u8>, content: &[u8]) -> Result<(), AllocError>
 
 // Appends the line of a processing instruction.
 fn append_instruction(out: &mut Vec<u8>, target: &str, content: &str) -> Result<(), AllocError>
-    ensures { OnOk result (out.new.items ≡ out.old.items ++ line 63 (target.now ++ content_part content.now)) }
+    ensures ok { OnOk result (out.new.items ≡ out.old.items ++ line 63 (target.now ++ content_part content.now)) }
+    ensures front { IsFront out.old.items out.new.items }
 {
     out.push(b'?')?;
     out.extend_from_slice(target.as_bytes())?;
@@ -143,7 +152,8 @@ fn append_instruction(out: &mut Vec<u8>, target: &str, content: &str) -> Result<
 
 // Appends a text, behind its mark where no text line is unfinished.
 fn append_text(out: &mut Vec<u8>, after_text: bool, text: &str) -> Result<(), AllocError>
-    ensures { OnOk result (out.new.items ≡ out.old.items ++ (text_mark after_text ++ escape text.now)) }
+    ensures ok { OnOk result (out.new.items ≡ out.old.items ++ (text_mark after_text ++ escape text.now)) }
+    ensures front { IsFront out.old.items out.new.items }
 {
     if after_text {
         return append_escaped(out, text.as_bytes());
@@ -154,9 +164,10 @@ fn append_text(out: &mut Vec<u8>, after_text: bool, text: &str) -> Result<(), Al
 
 /// Appends an event as it is printed, where `after_text` says whether the event before it was a text: then its line is
 /// still unfinished. A text leaves its line unfinished; every other event ends with a newline. `print` is this at the
-/// end of an empty list. After an `AllocError` it isn't said what `out` holds.
+/// end of an empty list. After an `AllocError` some of it may stand behind what `out` held, which is still there.
 pub fn append(out: &mut Vec<u8>, after_text: bool, e: &Built) -> Result<(), AllocError>
-    ensures { OnOk result (out.new.items ≡ out.old.items ++ printed after_text e.now) }
+    ensures ok { OnOk result (out.new.items ≡ out.old.items ++ printed after_text e.now) }
+    ensures front { IsFront out.old.items out.new.items }
 {
     match e {
         Built::Start { name, pairs } => {
@@ -186,9 +197,10 @@ pub fn print(alloc: Global, after_text: bool, e: &Built) -> Result<Vec<u8>, Allo
 }
 
 /// The bytes that end a whole result, where `after_text` says whether its last event was a text. The first
-/// `ending_len` bytes are in use: a newline where a text line is unfinished, then `C` and a newline.
+/// `ending_len` bytes are in use: a newline where a text line is unfinished, then `C` and a newline. The others are 0.
 pub fn ending(after_text: bool) -> [u8; 3]
-    ensures { take (length (ending_of after_text)) result ≡ ending_of after_text }
+    ensures used { take (length (ending_of after_text)) result ≡ ending_of after_text }
+    ensures unused { after_text ≡ false → result ≡ ending_of false ++ 0 ∷ [] }
 {
     if after_text { *b"\nC\n" } else { *b"C\n\0" }
 }
