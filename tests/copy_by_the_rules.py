@@ -2,7 +2,8 @@
 """Copies random small documents by the program and by the rules, and compares what is written, the line on the diagnostic
 output and the status.
 
-usage: copy_by_the_rules.py PROGRAM [SEED]
+usage: copy_by_the_rules.py PROGRAM [SEED [COUNT]]
+Without a seed it takes a new one, and prints it.
 """
 import random
 import subprocess
@@ -76,10 +77,12 @@ def random_document(rng):
 
 def main():
     program = sys.argv[1]
-    rng = random.Random(int(sys.argv[2]) if len(sys.argv) > 2 else 1)
+    seed = int(sys.argv[2]) if len(sys.argv) > 2 else random.SystemRandom().randrange(10**9)
+    count = int(sys.argv[3]) if len(sys.argv) > 3 else 1500
+    rng = random.Random(seed)
     whole = 0
     with tempfile.NamedTemporaryFile() as file:
-        for number in range(1500):
+        for number in range(count):
             data = random_document(rng)
             file.seek(0)
             file.truncate()
@@ -88,9 +91,9 @@ def main():
             run = subprocess.run([program, "copy", file.name], capture_output=True, check=False)
             expected = copy_by_the_rules(data)
             if (run.stdout, run.stderr, run.returncode) != expected:
-                sys.exit(f"document {number}: {data!r} gave {run.stdout!r}, {run.stderr!r}, {run.returncode}, and not {expected!r}")
+                sys.exit(f"seed {seed}, document {number}: {data!r} gave {run.stdout!r}, {run.stderr!r}, {run.returncode}, and not {expected!r}")
             whole += run.returncode == 0
-    print(f"1500 documents, {whole} of them whole: as the rules say")
+    print(f"{count} documents of seed {seed}, {whole} of them whole: as the rules say")
 
 
 if __name__ == "__main__":

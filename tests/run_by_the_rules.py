@@ -2,7 +2,8 @@
 """Runs random thin stylesheets on random small documents by the program and by the rules, read anew here, and compares
 both: what is written, the line on the diagnostic output, and the status.
 
-usage: run_by_the_rules.py PROGRAM [SEED]
+usage: run_by_the_rules.py PROGRAM [SEED [COUNT]]
+Without a seed it takes a new one, and prints it.
 """
 import os
 import random
@@ -255,11 +256,13 @@ def random_sheet(rng):
 
 def main():
     program = sys.argv[1]
-    rng = random.Random(int(sys.argv[2]) if len(sys.argv) > 2 else 1)
+    seed = int(sys.argv[2]) if len(sys.argv) > 2 else random.SystemRandom().randrange(10**9)
+    count = int(sys.argv[3]) if len(sys.argv) > 3 else 1500
+    rng = random.Random(seed)
     statuses = {}
     with tempfile.TemporaryDirectory() as folder:
         names = [os.path.join(folder, name) for name in ("sheet", "document")]
-        for number in range(1500):
+        for number in range(count):
             inputs = random_sheet(rng), random_document(rng)
             for name, data in zip(names, inputs):
                 with open(name, "wb") as file:
@@ -267,9 +270,9 @@ def main():
             run = subprocess.run([program, "run", *names], capture_output=True, check=False)
             expected = by_the_rules(*inputs)
             if (run.stdout, run.stderr, run.returncode) != expected:
-                sys.exit(f"run {number}: {inputs!r} gave {run.stdout!r}, {run.stderr!r}, {run.returncode}, and not {expected!r}")
+                sys.exit(f"seed {seed}, run {number}: {inputs!r} gave {run.stdout!r}, {run.stderr!r}, {run.returncode}, and not {expected!r}")
             statuses[run.returncode] = statuses.get(run.returncode, 0) + 1
-    print(f"1500 runs, of statuses {dict(sorted(statuses.items()))}: as the rules say")
+    print(f"{count} runs of seed {seed}, of statuses {dict(sorted(statuses.items()))}: as the rules say")
 
 
 if __name__ == "__main__":

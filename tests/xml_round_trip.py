@@ -234,7 +234,9 @@ def random_document(rng):
 
 
 def main():
-    rng = random.Random(int(sys.argv[1]) if len(sys.argv) > 1 else 1)
+    seed = int(sys.argv[1]) if len(sys.argv) > 1 else random.SystemRandom().randrange(10**9)
+    print(f"seed {seed}", flush=True)
+    rng = random.Random(seed)
     tools = Tools(rng)
     run_tables(tools)
     for part in PARTS:
