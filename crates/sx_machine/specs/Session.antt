@@ -1,9 +1,11 @@
 -- What a session stands for.
-use Rattle.std.specs.Prelude.{◌≡◌, ℕ, zero, suc, Option, Some, None, Bool, true, false, nat_eq, slice_get, slice_index_or, List, ◌++◌, map}
+use Rattle.std.specs.Prelude.{◌≡◌, ℕ, [], ◌∷◌, length, drop, zero, suc, Option, Some, None, Bool, true, false, nat_eq, slice_get, slice_index_or, List, ◌++◌, map}
 use Rattle.sx_atoms.specs.declared.error_codes.Code.TheVariants as error
 use Rattle.sx_kinds.specs.declared.sheets.Sheet.{Sheet}
-use Rattle.sx_tree.specs.Tree.{Document, TreeEvent, tree_of}
-use Rattle.sx_named.specs.Named.{NamedElement}
+use Rattle.sx_tree.specs.declared.events.Event.{Event}
+use Rattle.sx_tree.specs.Tree.{Document, TreeEvent, closes, tree_of}
+use Rattle.sx_lines.specs.declared.events.Built.{Built}
+use Rattle.sx_named.specs.Named.{NamedElement, named_in_tree, IsKnown}
 use Rattle.sx_build.specs.Asked.{Asked}
 use Rattle.sx_build.specs.Build.{Build, error_of}
 use Rattle.sx_machine.specs.declared.plans.Rule.{Rule}
@@ -17,10 +19,11 @@ use Rattle.sx_machine.specs.declared.session.Step.{Step}
 use Rattle.sx_machine.specs.declared.session.Step.TheVariants as step
 use Rattle.sx_machine.specs.Choice.{chosen_for, last_that}
 use Rattle.sx_machine.specs.Run.{Ending, done, waits, stops, ending_with, Result, result_of}
-use Rattle.sx_machine.specs.Meaning.{IsReady, is_copying_first, meaning_on}
+use Rattle.sx_machine.specs.Growth.{MayCome}
+use Rattle.sx_machine.specs.Meaning.{IsReady, is_copying_first, meaning_on, result_for}
 use Rattle.sx_machine.specs.Writer.{StandsFor}
 use Rattle.sx_machine.specs.Plan.{AreRulesOf, task_of, tasks}
-use Rattle.sx_names.specs.Numbering.{NameTable}
+use Rattle.sx_names.specs.Numbering.{NameTable, IsDistinct, KeepsPlaces}
 
 -- whether a session goes on, where the result ends so
 abbrev pub state_of : Ending → State
@@ -111,3 +114,27 @@ pub record Wrote (old new : Session) (more : List Asked) : Type 0 where
 -- the session is what this stylesheet has after what has happened
 abbrev pub Stands : Sheet → NameTable → ℕ → Session → List (TreeEvent NamedElement) → ℕ → Type 0
 Stands sheet names invocations s p given = StandsOn sheet names invocations s (tree_of p) given
+
+-- What the session stood for it now stands for with this event behind it, where the event may come and the table has its
+-- names.
+abbrev pub Advances : Session → Session → NameTable → Event → Type 0
+Advances old new names e = (sheet : Sheet) (known : NameTable) (invocations : ℕ) (p : List (TreeEvent NamedElement)) (given : ℕ) →
+    KeepsPlaces known names → IsDistinct names → IsKnown names e → MayCome p (named_in_tree names e) →
+    Stands sheet known invocations old p given → Stands sheet known invocations new (p ++ named_in_tree names e ∷ []) given
+
+-- what it stood for it now stands for with the close behind it, where that may come
+abbrev pub AdvancesToClose : Session → Session → NameTable → Type 0
+AdvancesToClose old new names = (sheet : Sheet) (known : NameTable) (invocations : ℕ) (p : List (TreeEvent NamedElement)) (given : ℕ) →
+    KeepsPlaces known names → IsDistinct names → MayCome p closes →
+    Stands sheet known invocations old p given → Stands sheet known invocations new (p ++ closes ∷ []) given
+
+-- these are the built events of the result behind those that were taken
+abbrev pub IsOutput : Session → List Built → Type 0
+IsOutput s events = (sheet : Sheet) (known : NameTable) (invocations : ℕ) (p : List (TreeEvent NamedElement)) (given : ℕ) →
+    Stands sheet known invocations s p given → events ≡ drop given (result_for sheet known invocations p).built
+
+-- all built events of the result were taken
+abbrev pub AllTaken : Session → Session → Type 0
+AllTaken old new = (sheet : Sheet) (known : NameTable) (invocations : ℕ) (p : List (TreeEvent NamedElement)) (given : ℕ) →
+    Stands sheet known invocations old p given →
+    Stands sheet known invocations new p (length (result_for sheet known invocations p).built)

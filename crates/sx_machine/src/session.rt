@@ -164,7 +164,7 @@ fn job_in(frames: &[Frame], root: Job) -> Job
 impl Session {
     ghost use Rattle.sx_machine.specs.Growth.{MayCome};
     ghost use Rattle.sx_machine.specs.Meaning.{IsReady, result_for};
-    ghost use Rattle.sx_machine.specs.Session.{StandsOn, Stands, Wrote, step_of, is_spent};
+    ghost use Rattle.sx_machine.specs.Session.{StandsOn, Stands, Wrote, Advances, AdvancesToClose, IsOutput, AllTaken, step_of, is_spent};
     ghost use Rattle.sx_named.specs.Named.{NamedElement, named_in_tree, name_at, attributes_at, IsKnown};
     ghost use Rattle.sx_tree.specs.Tree.{Document, TreeEvent, push, starts, ends, says, instructs, closes, has_open};
 
@@ -193,9 +193,7 @@ impl Session {
     /// Takes the next event of the document. It answers an error exactly where the result for the events ends in it, and
     /// goes on to answer that. After an `AllocError` the session is spent: each later call that takes an event answers one.
     pub fn feed(&mut self, e: Event, names: &mut Names) -> Result<Step, AllocError>
-        ensures stands { OnOk result ((sheet : Stylesheet) (known : NameTable) (invocations : ℕ) (p : List (TreeEvent NamedElement)) (given : ℕ)
-            → KeepsPlaces known names.old → IsDistinct names.old → IsKnown names.old e → MayCome p (named_in_tree names.old e)
-            → Stands sheet known invocations self.old p given → Stands sheet known invocations self.new (p ++ named_in_tree names.old e ∷ []) given) }
+        ensures stands { OnOk result (Advances self.old self.new names.old e) }
         ensures answer { IfOk result (λ step. step ≡ step_of self.new.state) }
         ensures names { names.new ≡ names.old }
         ensures err { OnErr result (is_spent self.new ≡ true) }
@@ -219,9 +217,7 @@ impl Session {
 
     /// Is told that the document has ended well: it is fed `Event::Close`.
     pub fn finish(&mut self, names: &mut Names) -> Result<Step, AllocError>
-        ensures stands { OnOk result ((sheet : Stylesheet) (known : NameTable) (invocations : ℕ) (p : List (TreeEvent NamedElement)) (given : ℕ)
-            → KeepsPlaces known names.old → IsDistinct names.old → MayCome p closes
-            → Stands sheet known invocations self.old p given → Stands sheet known invocations self.new (p ++ closes ∷ []) given) }
+        ensures stands { OnOk result (AdvancesToClose self.old self.new names.old) }
         ensures answer { IfOk result (λ step. step ≡ step_of self.new.state) }
         ensures names { names.new ≡ names.old }
         ensures err { OnErr result (is_spent self.new ≡ true) }
@@ -233,17 +229,14 @@ impl Session {
 
     /// The built events that are fixed and were not cleared yet, in order.
     pub fn output(&self) -> &[Built]
-        ensures { (sheet : Stylesheet) (known : NameTable) (invocations : ℕ) (p : List (TreeEvent NamedElement)) (given : ℕ)
-            → Stands sheet known invocations self.now p given → result.now ≡ drop given (result_for sheet known invocations p).built }
+        ensures { IsOutput self.now result.now }
     {
         self.writer.output()
     }
 
     /// Drops the built events that are fixed: they were taken. It takes no memory.
     pub fn clear_output(&mut self)
-        ensures stands { (sheet : Stylesheet) (known : NameTable) (invocations : ℕ) (p : List (TreeEvent NamedElement)) (given : ℕ)
-            → Stands sheet known invocations self.old p given
-            → Stands sheet known invocations self.new p (length (result_for sheet known invocations p).built) }
+        ensures stands { AllTaken self.old self.new }
         ensures state { self.new.state ≡ self.old.state }
     {
         self.writer.clear_output();
@@ -269,9 +262,7 @@ impl Session {
     // Takes an event where the session goes on.
     fn take(&mut self, e: Event, names: &Names) -> Result<(), AllocError>
         requires { self.old.state ≡ state.Going }
-        ensures stands { OnOk result ((sheet : Stylesheet) (known : NameTable) (invocations : ℕ) (p : List (TreeEvent NamedElement)) (given : ℕ)
-            → KeepsPlaces known names.now → IsDistinct names.now → IsKnown names.now e → MayCome p (named_in_tree names.now e)
-            → Stands sheet known invocations self.old p given → Stands sheet known invocations self.new (p ++ named_in_tree names.now e ∷ []) given) }
+        ensures stands { OnOk result (Advances self.old self.new names.now e) }
         ensures kept { OnOk result (is_spent self.new ≡ false) }
     {
         match e {

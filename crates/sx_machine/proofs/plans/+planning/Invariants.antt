@@ -1,4 +1,4 @@
-use Rattle.std.proofs.Common.{◌≡◌, ℕ, List, drop}
+use Rattle.std.proofs.Common.{◌≡◌, ℕ, drop}
 use Rattle.sx_machine.specs.Body.{body_of, written_out}
 use Rattle.sx_machine.specs.Plan.{then_plan, plan_of, read_plan}
 use Rattle.sx_machine.proofs.plans.+planning.Given as goal
