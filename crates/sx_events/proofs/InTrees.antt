@@ -1,9 +1,8 @@
 -- The events of bytes as a tree knows them, and their tree.
-use Rattle.std.proofs.Common.{◌≡◌, Bool, true, List, [], ◌∷◌, ◌++◌, map, refl, ap, sym, ◌∙◌, subst}
+use Rattle.std.proofs.Common.{◌≡◌, List, [], ◌∷◌, ◌++◌, ap, ◌∙◌, subst}
 use Rattle.std.proofs.lemmas.List.{map-append}
 use Rattle.sx_named.specs.Named.{ElementStart, NamedElement, started, in_tree, all_in_tree}
 use Rattle.sx_tree.proofs.Mapping.{tree_of-map, has_open-map, may_follow-map}
-use Rattle.sx_tree.specs.Mapping.{map_document}
 use Rattle.sx_tree.specs.Tree.{TreeEvent, Document, has_open, tree_of}
 use Rattle.sx_events.specs.Laws.{AllFollow}
 

@@ -1,11 +1,11 @@
 -- What a reader of events stands for, and what it gives.
-use Rattle.std.specs.Prelude.{◌≡◌, ℕ, suc, ◌+◌, ◌-◌, ◌^◌, ◌≤◌, min, Bool, true, not, ◌&&◌, List, ◌++◌, length, slice_get, Option, Some, None, Result, Ok, Err}
+use Rattle.std.specs.Prelude.{◌≡◌, ℕ, suc, ◌+◌, ◌-◌, ◌^◌, ◌≤◌, min, Bool, true, false, not, ◌&&◌, List, ◌++◌, length, slice_get, Option, Some, None, Result, Ok, Err}
 use Rattle.sx_esis.specs.Lines.{Line}
 use Rattle.sx_esis.specs.LineReader as reader
 use Rattle.sx_esis.specs.declared.reader.LineReader.{LineReader}
 use Rattle.sx_named.specs.Named.{named, IsKnown}
 use Rattle.sx_tree.specs.declared.events.Event.{Event}
-use Rattle.sx_events.specs.Course.{course, course_of, reading, looked_at, is_beyond, break_of, events_of, run_in, run_of, whats}
+use Rattle.sx_events.specs.Course.{course, course_of, reading, looked_at, is_beyond, break_of, events_of, line_behind, run_in, run_of, whats}
 use Rattle.sx_events.specs.Place.{beginning}
 use Rattle.sx_events.specs.Pending.{Pends, IsIdle, count_held}
 use Rattle.sx_events.specs.Standing.{IsSmall, Knows, count}
@@ -138,3 +138,28 @@ left r = left_at r.ending (reader.unread r.lines) r.standing.run r.pending
 -- the reader wanted memory that it did not get
 abbrev pub is_spent : EventReader → Bool
 is_spent r = r.spent
+
+-- What the reader stood for it now stands for with these bytes behind it.
+abbrev pub TakesBytes : EventReader → EventReader → List ℕ → Type 0
+TakesBytes old new piece = (limits : Limits) (names : NameTable) (b : List ℕ) (given : ℕ) →
+    EventsStand old limits names b false given → EventsStand new limits names (b ++ piece) false given
+
+-- what it stood for it still stands for
+abbrev pub StandsStill : EventReader → EventReader → Type 0
+StandsStill old new = (limits : Limits) (names : NameTable) (b : List ℕ) (ended : Bool) (given : ℕ) →
+    EventsStand old limits names b ended given → EventsStand new limits names b ended given
+
+-- it is told of the end
+abbrev pub TakesEnd : EventReader → EventReader → Type 0
+TakesEnd old new = (limits : Limits) (names : NameTable) (b : List ℕ) (given : ℕ) →
+    EventsStand old limits names b false given → EventsStand new limits names b true given
+
+-- this is the line of the last event that was given
+abbrev pub IsLastLine : EventReader → ℕ → Type 0
+IsLastLine r line = (limits : Limits) (names : NameTable) (b : List ℕ) (ended : Bool) (given : ℕ) →
+    EventsStand r limits names b ended given → line ≡ line_behind (events_of limits b ended) given
+
+-- it gives this, where the names were in one table before and are in another now
+abbrev pub GivesNext : EventReader → EventReader → NameTable → NameTable → Option (Result Event DocFault) → Type 0
+GivesNext old new before after answer = (limits : Limits) (b : List ℕ) (ended : Bool) (given : ℕ) →
+    EventsStand old limits before b ended given → Gives limits after b ended given new answer

@@ -2,7 +2,7 @@
 ghost use Rattle.std.specs.Prelude.{◌≡◌, ◌^◌, ◌<◌, ◌≤◌, ◌+◌, ◌-◌, [], ◌++◌, List, ℕ, Bool, true, false, min, nat_lt, take, IsTrue, IfOk, OnOk, OnErr, IsErr, None, length};
 ghost use Rattle.sx_names.specs.Numbering.{NameTable, IsDistinct, KeepsPlaces};
 ghost use Rattle.sx_events.specs.Course.{is_beyond, line_behind, looked_at, events_of};
-ghost use Rattle.sx_events.specs.Reader.{TookAll, Broke, EndsWell, Counted, EventsStand, Rests, Gives, IfEvent, left, is_spent};
+ghost use Rattle.sx_events.specs.Reader.{TookAll, Broke, EndsWell, Counted, EventsStand, Rests, Gives, GivesNext, IfEvent, IsLastLine, StandsStill, TakesBytes, TakesEnd, left, is_spent};
 ghost use Rattle.sx_events.specs.Pending.{IsIdle};
 ghost use Rattle.sx_events.specs.Standing.{count};
 
@@ -85,8 +85,8 @@ impl EventReader {
     /// Takes the next bytes. Behind the limit of a document, and where the bytes were broken off, they are dropped. After
     /// an `AllocError` the reader is spent, and still stands for what it was fed before.
     pub fn feed(&mut self, piece: &[u8]) -> Result<(), AllocError>
-        ensures fed { OnOk result ((limits : Limits) (names : NameTable) (b : List ℕ) (given : ℕ) → EventsStand self.old limits names b false given → EventsStand self.new limits names (b ++ piece.now) false given) }
-        ensures err { OnErr result ((limits : Limits) (names : NameTable) (b : List ℕ) (ended : Bool) (given : ℕ) → EventsStand self.old limits names b ended given → EventsStand self.new limits names b ended given) }
+        ensures fed { OnOk result (TakesBytes self.old self.new piece.now) }
+        ensures err { OnErr result (StandsStill self.old self.new) }
         ensures lost { OnErr result (is_spent self.new ≡ true) }
         ensures stays { OnOk result (is_spent self.new ≡ false) }
         ensures spent { IsTrue (is_spent self.old) → IsErr result }
@@ -112,7 +112,7 @@ impl EventReader {
 
     /// Says that there are no more bytes. It takes no memory, and answers an error only where the reader is spent.
     pub fn finish(&mut self) -> Result<(), AllocError>
-        ensures told { OnOk result ((limits : Limits) (names : NameTable) (b : List ℕ) (given : ℕ) → EventsStand self.old limits names b false given → EventsStand self.new limits names b true given) }
+        ensures told { OnOk result (TakesEnd self.old self.new) }
         ensures err { OnErr result (self.new ≡ self.old) }
         ensures only { OnErr result (is_spent self.old ≡ true) }
         ensures same { is_spent self.new ≡ is_spent self.old }
@@ -132,7 +132,7 @@ impl EventReader {
     /// The number of the line of the last event that was given, counted from 1, and 0 before the first: of a run of text
     /// its last text line, of the close the number of lines.
     pub fn line(&self) -> u64
-        ensures { (limits : Limits) (names : NameTable) (b : List ℕ) (ended : Bool) (given : ℕ) → EventsStand self.now limits names b ended given → result ≡ line_behind (events_of limits b ended) given }
+        ensures { IsLastLine self.now result }
     {
         self.line
     }
@@ -140,7 +140,7 @@ impl EventReader {
     /// The next event of the bytes that were fed. `None` says that there are no more so far, and behind the close that
     /// there are none; `DocFault` where the bytes are broken off, and it stays the answer.
     pub fn next(&mut self, names: &mut Names) -> Result<Option<Result<Event, DocFault>>, AllocError>
-        ensures gives { IfOk result (λ answer. (limits : Limits) (b : List ℕ) (ended : Bool) (given : ℕ) → EventsStand self.old limits names.old b ended given → Gives limits names.new b ended given self.new answer) }
+        ensures gives { IfOk result (λ answer. GivesNext self.old self.new names.old names.new answer) }
         ensures progress { IfOk result (λ answer. IfEvent answer (λ _. left self.new < left self.old)) }
         ensures kept { KeepsPlaces names.old names.new }
         ensures distinct { IsDistinct names.old → IsDistinct names.new }

@@ -1,4 +1,4 @@
-use Rattle.std.proofs.Common.{◌≡◌, ◌<◌, ℕ, List, [], ◌∷◌, length, take}
+use Rattle.std.proofs.Common.{◌≡◌, ◌<◌, [], ◌∷◌, length, take}
 use Rattle.sx_events.specs.Place.{declared_behind}
 use Rattle.sx_events.proofs.elements.declare.Given as goal
 use Rattle.sx_names.specs.Scope.{ScopeBindings}

@@ -1,6 +1,6 @@
-use Rattle.std.proofs.Common.{ℕ, true, List, [], ◌∷◌, ◌++◌, refl, ap, ap₂, ◌∙◌}
+use Rattle.std.proofs.Common.{ℕ, List, [], ◌∷◌, ◌++◌, refl, ap, ap₂, ◌∙◌}
 use Rattle.std.proofs.lemmas.Result.{on_ok_weaker}
-use Rattle.sx_events.specs.Place.{Written, written}
+use Rattle.sx_events.specs.Place.{written}
 use Rattle.sx_events.specs.Standing.{lines_of}
 use Rattle.sx_events.proofs.Waits.{wait_space, wait_other}
 use Rattle.sx_events.proofs.attributes.Attributes.push.Goals as goal
