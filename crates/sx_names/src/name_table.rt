@@ -90,6 +90,13 @@ impl Names {
         Some(number as u64)
     }
 
+    /// A law of every table, which costs nothing: each name is there once.
+    pub fn each_once(&self)
+        ensures { IsDistinct self.now }
+    {
+        let _parts = &self.parts;
+    }
+
     /// Whether a name has this number: whether it is below the number of names.
     pub fn has(&self, number: u64) -> bool
         ensures { result ≡ nat_lt number (length self.now) }

@@ -78,8 +78,7 @@ pub fn read(
     ensures line { IfOk result (λ answer. IfErr answer (λ f. AreKnown names.old events.now → BreaksOn (tokens_of names.old events.now) f.line)) }
 {
     let read = run(alloc, events, names);
-    // Its contract says that each name is there once.
-    names.find("", "");
+    names.each_once();
     match read? {
         Ok(reader) => {
             let sheet = sheet(alloc, reader)?;
