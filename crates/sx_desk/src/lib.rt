@@ -9,8 +9,7 @@ mod opened;
 mod pieces;
 mod real;
 mod steady;
-#[cfg(test)]
-mod tests;
+mod system;
 
 pub use desk::{Desk, Failed, Out};
 pub use files::{MemFile, MemFiles};
