@@ -185,15 +185,3 @@ fn a_print_that_fails_is_a_fault(rt: HostRuntime) -> Result<(), Fail> {
     assert!(rt; desk.write(Out::Diagnostic, b"error\n") == Err(Failed));
     Ok(())
 }
-
-#[test]
-fn files_are_opened_up_to_their_limit(rt: HostRuntime) -> Result<(), Fail> {
-    let fake = FakeRuntime::new(rt.alloc(), b"", WELL)?;
-    let mut desk = RealDesk::new(rt.alloc(), &fake)?;
-    assert!(rt; desk.open_file("") == Err(Failed));
-    for number in 0..66 {
-        assert!(rt; desk.open_file("doc") == Ok(number));
-    }
-    assert!(rt; desk.open_file("doc") == Err(Failed));
-    Ok(())
-}
