@@ -1,7 +1,8 @@
 -- The file of a name, by its place.
-use Rattle.std.proofs.Common.{◌≡◌, ℕ, ◌<◌, ◌≤◌, Bool, true, false, cond, nat_lt, List, Option, Some, None, option_map, option_and_then, is_some, IsSome, sym, ap, ◌∙◌, arith, length, refl, inl, inr}
+use Rattle.std.proofs.Common.{◌≡◌, ℕ, ◌<◌, ◌≤◌, Bool, true, false, cond, nat_lt, List, Option, Some, None, option_map, option_and_then, is_some, is_none, IsSome, sym, ap, ◌∙◌, arith, length, refl, inl, inr}
 use Rattle.std.specs.List.{position_or_len}
 use Rattle.std.proofs.lemmas.Bool.Decides.{nat_tests}
+use Rattle.std.proofs.lemmas.Bool.{false≢true}
 use Rattle.std.proofs.lemmas.List.Folds.{find_at}
 use Rattle.std.proofs.lemmas.Option.{slice_get_past, slice_get_cases, cond_some}
 use Rattle.sx_desk.specs.Files.{is_named, place_in, bytes_in, content_in}
@@ -37,3 +38,14 @@ placed_has_content files name place e =
     let within : position_or_len (is_named name) files < length files = below _ _ p.0 in
     let here : place < length files = omega (arith, p.1, within) in
     ap is_some (sym (content_by_place files name) ∙ ap (option_and_then (bytes_in files)) e) ∙ has_bytes files place here
+
+-- and one that has none has no content
+pub unplaced_has_none : (files : List MemFile) (name : List ℕ) → place_in files name ≡ None → is_none (content_in files name) ≡ true
+unplaced_has_none files name e = ap is_none (sym (content_by_place files name) ∙ ap (option_and_then (bytes_in files)) e)
+
+something : {A : Type 0} (o : Option A) → is_some o ≡ true → is_none o ≡ false
+something (Some x) e = refl
+something None e = absurd (false≢true e)
+
+pub placed_is_known : (files : List MemFile) (name : List ℕ) (place : ℕ) → place_in files name ≡ Some place → is_none (content_in files name) ≡ false
+placed_is_known files name place e = something (content_in files name) (placed_has_content files name place e)

@@ -4,4 +4,5 @@ pub mod History
 pub mod Mem
 pub mod Opened
 pub mod Pieces
+pub mod Real
 pub mod Steady

@@ -28,7 +28,7 @@ pub struct CallHistory {
 
 impl CallHistory {
     ghost use Rattle.std.specs.Prelude.{◌≡◌, ℕ, ◌+◌, ◌-◌, ◌^◌, ◌<◌, ◌≤◌, ◌≢◌, [], ◌∷◌, ◌++◌, IsTrue, IfOk, IfSome, length, take, slice_index, slice_index_or, slice_set, is_some};
-    ghost use Rattle.sx_desk.specs.Pieces.{IsPiece};
+    ghost use Rattle.sx_desk.specs.Pieces.{IsPiece, least_of};
     ghost use Rattle.sx_desk.specs.Opened.{names_of, places_of, taken_of, marks_of};
     ghost use Rattle.sx_desk.specs.History.{tells, opened_names, asked_names, written_to, source_of, KeepsFiles, KeepsOutputs};
 
@@ -138,6 +138,8 @@ impl CallHistory {
         requires { 0 < length buf.old }
         ensures at_most { result ≤ length buf.new }
         ensures piece { IsPiece (source_of files.now self.old file) (slice_index (taken_of self.old.files.items) file) buf.new result }
+        ensures count { result ≡ least_of most (length buf.new)
+            (length (source_of files.now self.old file) - slice_index (taken_of self.old.files.items) file) }
         ensures opened { self.new.opened ≡ self.old.opened }
         ensures known { tells self.new ≡ tells self.old }
         ensures names { names_of self.new.files.items ≡ names_of self.old.files.items }
@@ -173,6 +175,7 @@ impl CallHistory {
         requires { 0 < length piece.now }
         ensures some { 1 ≤ result }
         ensures at_most { result ≤ length piece.now }
+        ensures count { result ≡ least_of most (length piece.now) (length piece.now) }
         ensures known { IsTrue (tells self.new) → IsTrue (tells self.old) }
         ensures appended { IsTrue (tells self.new) → written_to self.new out ≡ written_to self.old out ++ take result piece.now }
         ensures others { (o : Out) → o ≢ out → written_to self.new o ≡ written_to self.old o }

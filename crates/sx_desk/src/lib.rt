@@ -9,6 +9,7 @@ mod opened;
 mod pieces;
 mod real;
 mod steady;
+mod system;
 
 pub use desk::{Desk, Failed, Out};
 pub use files::{MemFile, MemFiles};

@@ -1,8 +1,10 @@
 // A desk in memory, which fails where it is told to.
-ghost use Rattle.std.specs.Prelude.{◌≡◌, ◌<◌, [], length, is_some, IfOk, IfSome};
+ghost use Rattle.std.specs.Prelude.{◌≡◌, ◌<◌, ◌-◌, ◌^◌, ◌||◌, [], length, is_some, is_none, is_err, IfOk, IfSome};
+ghost use Rattle.sx_desk.specs.Desk.{Opens, Reads, Writes};
+ghost use Rattle.sx_desk.specs.Pieces.{MovesMost, least_of};
 ghost use Rattle.sx_desk.specs.History.{IsUnused};
 ghost use Rattle.sx_desk.specs.Files.{content_in};
-ghost use Rattle.sx_desk.specs.Mem.{mem_seen};
+ghost use Rattle.sx_desk.specs.Mem.{mem_seen, mem_served, no_calls, calls_of, one_more, is_listed, with_fault, SameSettings};
 
 use crate::files::place_of;
 use crate::history::CallHistory;
@@ -46,6 +48,7 @@ impl MemDesk {
     ) -> Result<MemDesk, AllocError>
         ensures unused { IfOk result (λ d. IsUnused (mem_seen d)) }
         ensures content { IfOk result (λ d. (mem_seen d).content ≡ content_in files) }
+        ensures calls { IfOk result (λ d. calls_of d ≡ no_calls) }
         ensures files { IfOk result (λ d. d.files ≡ files) }
         ensures read_piece { IfOk result (λ d. d.read_piece ≡ read_piece) }
         ensures write_piece { IfOk result (λ d. d.write_piece ≡ write_piece) }
@@ -93,7 +96,15 @@ impl MemDesk {
 impl Desk for MemDesk {
     ghost seen = { mem_seen };
 
-    fn open_file(&mut self, name: &str) -> Result<u32, Failed> {
+    fn open_file(&mut self, name: &str) -> Result<u32, Failed>
+        requires { length (mem_seen self.old).opened < 2 ^ 32 - 1 }
+        ensures desk { Opens name.now (mem_seen self.old) (mem_seen self.new) result }
+        ensures settings { SameSettings self.old self.new }
+        ensures calls { calls_of self.new ≡ record (calls_of self.old) { opens = one_more (calls_of self.old).opens } }
+        ensures fails { is_err result ≡ (is_listed self.old.open_fails.items (calls_of self.old).opens
+            || is_none (content_in self.old.files name.now)) }
+        ensures faults { (mem_seen self.new).open_faults ≡ with_fault (mem_seen self.old).open_faults result }
+    {
         self.history.ask(name);
         self.opens = self.opens.saturating_add(1);
         if !self.open_fails.contains(&self.opens) {
@@ -105,7 +116,17 @@ impl Desk for MemDesk {
         Err(Failed)
     }
 
-    fn read(&mut self, file: u32, buf: &mut [u8]) -> Result<usize, Failed> {
+    fn read(&mut self, file: u32, buf: &mut [u8]) -> Result<usize, Failed>
+        requires room { 0 < length buf.old }
+        requires given { file < length (mem_seen self.old).opened }
+        ensures desk { Reads file (mem_seen self.old) (mem_seen self.new) buf.new result }
+        ensures settings { SameSettings self.old self.new }
+        ensures calls { calls_of self.new ≡ record (calls_of self.old) { reads = one_more (calls_of self.old).reads } }
+        ensures fails { is_err result ≡ is_listed self.old.read_fails.items (calls_of self.old).reads }
+        ensures moves { IfOk result (MovesMost (mem_served self.new file) ((mem_seen self.old).taken file)
+            self.old.read_piece buf.new) }
+        ensures faults { (mem_seen self.new).read_faults ≡ with_fault (mem_seen self.old).read_faults result }
+    {
         self.history.mark(file);
         self.reads = self.reads.saturating_add(1);
         if self.read_fails.contains(&self.reads) {
@@ -116,7 +137,15 @@ impl Desk for MemDesk {
         Ok(self.history.take_next(files, file, self.read_piece, buf))
     }
 
-    fn write(&mut self, out: Out, piece: &[u8]) -> Result<usize, Failed> {
+    fn write(&mut self, out: Out, piece: &[u8]) -> Result<usize, Failed>
+        requires { 0 < length piece.now }
+        ensures desk { Writes out piece.now (mem_seen self.old) (mem_seen self.new) result }
+        ensures settings { SameSettings self.old self.new }
+        ensures calls { calls_of self.new ≡ record (calls_of self.old) { writes = one_more (calls_of self.old).writes } }
+        ensures fails { is_err result ≡ is_listed self.old.write_fails.items (calls_of self.old).writes }
+        ensures moves { IfOk result (λ n. n ≡ least_of self.old.write_piece (length piece.now) (length piece.now)) }
+        ensures faults { (mem_seen self.new).write_faults out ≡ with_fault ((mem_seen self.old).write_faults out) result }
+    {
         self.writes = self.writes.saturating_add(1);
         if self.write_fails.contains(&self.writes) {
             match out {

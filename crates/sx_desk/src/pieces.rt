@@ -1,6 +1,6 @@
 // Bytes and names that a desk in memory hands out or keeps.
-ghost use Rattle.std.specs.Prelude.{◌≡◌, ◌+◌, ◌^◌, ◌<◌, ◌≤◌, [], ◌∷◌, ◌++◌, OnOk, length, map, string_bytes};
-ghost use Rattle.sx_desk.specs.Pieces.{IsPiece};
+ghost use Rattle.std.specs.Prelude.{◌≡◌, ◌+◌, ◌-◌, ◌^◌, ◌<◌, ◌≤◌, [], ◌∷◌, ◌++◌, OnOk, length, map, string_bytes};
+ghost use Rattle.sx_desk.specs.Pieces.{IsPiece, least_of};
 
 use std::alloc::{AllocError, Global};
 
@@ -9,6 +9,7 @@ pub fn copy_piece(bytes: &[u8], taken: usize, most: u32, buf: &mut [u8]) -> usiz
     requires { 0 < length buf.old }
     ensures at_most { result ≤ length buf.new }
     ensures piece { IsPiece bytes.now taken buf.new result }
+    ensures count { result ≡ least_of most (length buf.new) (length bytes.now - taken) }
     ensures fits { taken + result < 2 ^ 64 }
 {
     if taken >= bytes.len() {

@@ -1,7 +1,9 @@
 // A desk in memory that never fails.
-ghost use Rattle.std.specs.Prelude.{◌≡◌, ◌<◌, length, is_some, IfOk, IfSome};
+ghost use Rattle.std.specs.Prelude.{◌≡◌, ◌<◌, ◌-◌, ◌^◌, length, is_some, IsOk, IfOk, IfSome};
+ghost use Rattle.sx_desk.specs.Desk.{Opens, Reads, Writes};
+ghost use Rattle.sx_desk.specs.Pieces.{MovesMost, least_of};
 ghost use Rattle.sx_desk.specs.History.{IsUnused};
-ghost use Rattle.sx_desk.specs.Steady.{content_or_none, steady_seen};
+ghost use Rattle.sx_desk.specs.Steady.{content_or_none, steady_seen, steady_served, SameFiles};
 
 use crate::files::place_of;
 use crate::history::CallHistory;
@@ -65,19 +67,38 @@ impl SteadyDesk {
 impl Desk for SteadyDesk {
     ghost seen = { steady_seen };
 
-    fn open_file(&mut self, name: &str) -> Result<u32, Failed> {
+    fn open_file(&mut self, name: &str) -> Result<u32, Failed>
+        requires { length (steady_seen self.old).opened < 2 ^ 32 - 1 }
+        ensures desk { Opens name.now (steady_seen self.old) (steady_seen self.new) result }
+        ensures succeeds { IsOk result }
+        ensures settings { SameFiles self.old self.new }
+    {
         self.history.ask(name);
         let place = place_of(self.files.as_slice(), name);
         Ok(self.history.open(name, place))
     }
 
-    fn read(&mut self, file: u32, buf: &mut [u8]) -> Result<usize, Failed> {
+    fn read(&mut self, file: u32, buf: &mut [u8]) -> Result<usize, Failed>
+        requires room { 0 < length buf.old }
+        requires given { file < length (steady_seen self.old).opened }
+        ensures desk { Reads file (steady_seen self.old) (steady_seen self.new) buf.new result }
+        ensures succeeds { IsOk result }
+        ensures settings { SameFiles self.old self.new }
+        ensures moves { IfOk result (MovesMost (steady_served self.new file) ((steady_seen self.old).taken file)
+            self.old.read_piece buf.new) }
+    {
         self.history.mark(file);
         let files = self.files.as_slice();
         Ok(self.history.take_next(files, file, self.read_piece, buf))
     }
 
-    fn write(&mut self, out: Out, piece: &[u8]) -> Result<usize, Failed> {
+    fn write(&mut self, out: Out, piece: &[u8]) -> Result<usize, Failed>
+        requires { 0 < length piece.now }
+        ensures desk { Writes out piece.now (steady_seen self.old) (steady_seen self.new) result }
+        ensures succeeds { IsOk result }
+        ensures settings { SameFiles self.old self.new }
+        ensures moves { IfOk result (λ n. n ≡ least_of self.old.write_piece (length piece.now) (length piece.now)) }
+    {
         Ok(self.history.write(out, piece, self.write_piece))
     }
 

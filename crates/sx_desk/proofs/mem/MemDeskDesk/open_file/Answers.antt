@@ -1,4 +1,5 @@
-use Rattle.std.proofs.Common.{rules, arith, ◌≡◌, ◌+◌, ◌++◌, ◌∷◌, sym, ap, ◌∙◌, Some, [], true, length, List}
+use Rattle.std.proofs.Common.{rules, arith, ◌≡◌, ◌+◌, ◌++◌, ◌∷◌, sym, ap, ◌∙◌, Some, None, [], true, false, ◌||◌, Bool, refl, length, List}
+use Rattle.std.proofs.lemmas.Bool.{false≢true}
 use Rattle.std.proofs.lemmas.List.{length-map}
 use Rattle.sx_desk.specs.Files.{place_in}
 use Rattle.sx_desk.specs.History.{tells, opened_names}
@@ -6,12 +7,14 @@ use Rattle.sx_desk.specs.Opened.{taken_of, marks_of}
 use Rattle.sx_desk.specs.declared.files.MemFile.{MemFile}
 use Rattle.sx_desk.specs.declared.opened.OpenedFile.{OpenedFile}
 use Rattle.sx_desk.proofs.Recorded.{opened_length, opened_more, recorded}
-use Rattle.sx_desk.proofs.Places.{placed_has_content}
+use Rattle.sx_desk.proofs.Places.{placed_has_content, placed_is_known, unplaced_has_none}
+use Rattle.sx_desk.specs.Mem.{is_listed}
+use Rattle.sx_desk.proofs.mem.MemDeskDesk.open_file.Goals.{then-not-contains+in_default, else-not-contains}
 use Rattle.sx_desk.proofs.Rows.{added_last, added_others}
 use Rattle.sx_desk.proofs.mem.MemDeskDesk.open_file.Goals as goal
 
-pub returns-in-Some : goal.returns-in-Some
-returns-in-Some c =
+pub returns-in-Some-clause-desk : goal.returns-in-Some-clause-desk
+returns-in-Some-clause-desk c =
     let files = c.args.self.now.files in
     let name = c.args.name.now in
     let h₀ = c.args.self.now.history in
@@ -55,3 +58,37 @@ returns-in-Some c =
             written = search rules;
           };
     }
+
+neither : (listed nothing : Bool) → listed ≡ false → nothing ≡ false → false ≡ listed || nothing
+neither false nothing e f = sym f
+neither true nothing e f = sym e
+
+either : (listed nothing : Bool) → listed ≡ true → true ≡ listed || nothing
+either true nothing e = refl
+either false nothing e = absurd (false≢true e)
+
+nothing_there : (listed nothing : Bool) → nothing ≡ true → true ≡ listed || nothing
+nothing_there true nothing e = refl
+nothing_there false nothing e = sym e
+
+pub returns-in-Some-clause-fails : goal.returns-in-Some-clause-fails
+returns-in-Some-clause-fails c =
+    let desk = c.args.self.now in
+    let name = c.args.name.now in
+    let listed : is_listed desk.open_fails.items desk.opens ≡ c.contains.result = search rules in
+    let place : place_in desk.files name ≡ Some c.in-Some.place =
+    ap (λ (fs : List MemFile). place_in fs name) (sym c.as_slice.ensures) ∙ sym c.in-Some.ensures in
+    neither _ _ (listed ∙ c.if-not-contains.true) (placed_is_known desk.files name c.in-Some.place place)
+
+pub returns-clause-fails : goal.returns-clause-fails
+returns-clause-fails c =
+    let desk = c.args.self.now in
+    let name = c.args.name.now in
+    let listed : is_listed desk.open_fails.items desk.opens ≡ c.contains.result = search rules in
+    elim c.if-not-contains.branch [
+      | then-not-contains+in_default w ↦
+          let place : place_in desk.files name ≡ None =
+          ap (λ (fs : List MemFile). place_in fs name) (sym w.as_slice.ensures) ∙ sym w.place_of.ensures ∙ w.in_default.is in
+          nothing_there _ _ (unplaced_has_none desk.files name place)
+      | else-not-contains w ↦ either _ _ (listed ∙ w.if-not-contains.false)
+    ]

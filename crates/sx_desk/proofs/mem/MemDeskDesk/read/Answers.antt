@@ -8,8 +8,8 @@ use Rattle.sx_desk.specs.declared.files.MemFile.{MemFile}
 use Rattle.sx_desk.proofs.Reading.{Marked, Taken, read_done}
 use Rattle.sx_desk.proofs.mem.MemDeskDesk.read.Goals as goal
 
-pub returns : goal.returns
-returns c =
+pub returns-clause-desk : goal.returns-clause-desk
+returns-clause-desk c =
     let desk = c.args.self.now in
     let file = c.args.file in
     let h₀ = desk.history in

@@ -12,8 +12,8 @@ same_bytes : (files : List MemFile) (name : Option (List ℕ)) → unwrap_or (op
 same_bytes files (Some name) = refl
 same_bytes files None = refl
 
-pub returns : goal.returns
-returns c =
+pub returns-clause-desk : goal.returns-clause-desk
+returns-clause-desk c =
     let desk = c.args.self.now in
     let file = c.args.file in
     let h₀ = desk.history in
