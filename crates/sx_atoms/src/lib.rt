@@ -2,7 +2,9 @@
 //! their arguments.
 #![tactic(auto)]
 
-/// The text, the number and the positions that an argument of a function is.
+/// The answer of a call that is one atom.
+pub mod answers;
+/// The arguments of a call, and the text, the number and the positions that one is.
 pub mod arguments;
 mod arithmetic;
 mod atoms;

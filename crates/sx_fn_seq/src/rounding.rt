@@ -3,9 +3,9 @@ ghost use Rattle.std.specs.Prelude.{◌≡◌, IfOk};
 ghost use Rattle.sx_atoms.specs.declared.numbers.Number.TheVariants as number;
 ghost use Rattle.sx_fn_seq.specs.Rounding.{decimal_of, number_by, rounding_of};
 
-use crate::answers::answered;
 use sqlite_items::Items;
 use std::alloc::{AllocError, Global};
+use sx_atoms::answers::answered;
 use sx_atoms::arguments::number;
 use sx_atoms::{Atom, Atoms, Code, Dec, ceiling, floor, round};
 
