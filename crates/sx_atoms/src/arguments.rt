@@ -33,7 +33,9 @@ pub fn given(args: &Args, place: usize) -> Option<&[Atom]>
 /// An argument as a text (XPath 3.1, 3.1.5.2): "" where it is empty. XPTY0004 for a number, a truth value and more than one
 /// atom.
 pub fn text(atoms: &[Atom]) -> Result<&str, Code>
-    ensures { MatchResult result (λ s. text_argument atoms.now ≡ Ok s.now) (λ e. text_argument atoms.now ≡ Err e) }
+    ensures { MatchResult result
+        (λ s. text_argument atoms.now ≡ Ok s.now)
+        (λ e. text_argument atoms.now ≡ Err e) }
 {
     match atoms {
         [] => Ok(""),

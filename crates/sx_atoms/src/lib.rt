@@ -26,6 +26,7 @@ pub use casting::{cast, castable};
 pub use comparison::{CmpOp, compare};
 pub use error_codes::Code;
 pub use functions::{SeqFn, TextFn, Usage};
+pub use numbers::UNITS;
 pub use printing::print;
 pub use rounding::{ceiling, floor, round};
 pub use signature::Signature;

@@ -21,7 +21,8 @@ pub fn copied(
     alloc: Global,
     answer: Result<&[Atom], Code>,
 ) -> Result<Result<Atoms, Code>, AllocError>
-    ensures { IfOk result (λ copy. MatchResult answer.entry (λ atoms. copy ≡ Ok atoms.now) (λ e. copy ≡ Err e)) }
+    ensures { IfOk result (λ copy. MatchResult answer.entry
+        (λ atoms. copy ≡ Ok atoms.now) (λ e. copy ≡ Err e)) }
 {
     match answer {
         Ok(atoms) => Ok(Ok(copies(alloc, atoms)?)),

@@ -53,7 +53,9 @@ pub fn subsequence<'a, T>(items: &'a [T], positions: &Positions) -> &'a [T]
 
 /// The items, where there is one at most (14.3.1). FORG0003 where there are more.
 pub fn zero_or_one<T>(items: &[T]) -> Result<&[T], Code>
-    ensures { MatchResult result (λ same. spec.zero_or_one items.now ≡ Ok same.now) (λ e. spec.zero_or_one items.now ≡ Err e) }
+    ensures { MatchResult result
+        (λ same. spec.zero_or_one items.now ≡ Ok same.now)
+        (λ e. spec.zero_or_one items.now ≡ Err e) }
 {
     if items.len() <= 1 {
         Ok(items)
@@ -64,7 +66,9 @@ pub fn zero_or_one<T>(items: &[T]) -> Result<&[T], Code>
 
 /// The items, where there is one at least (14.3.2). FORG0004 where there is none.
 pub fn one_or_more<T>(items: &[T]) -> Result<&[T], Code>
-    ensures { MatchResult result (λ same. spec.one_or_more items.now ≡ Ok same.now) (λ e. spec.one_or_more items.now ≡ Err e) }
+    ensures { MatchResult result
+        (λ same. spec.one_or_more items.now ≡ Ok same.now)
+        (λ e. spec.one_or_more items.now ≡ Err e) }
 {
     if items.is_empty() {
         Err(Code::Forg0004)
@@ -75,7 +79,9 @@ pub fn one_or_more<T>(items: &[T]) -> Result<&[T], Code>
 
 /// The items, where there is exactly one (14.3.3). FORG0005 where there is none, and where there are more.
 pub fn exactly_one<T>(items: &[T]) -> Result<&[T], Code>
-    ensures { MatchResult result (λ same. spec.exactly_one items.now ≡ Ok same.now) (λ e. spec.exactly_one items.now ≡ Err e) }
+    ensures { MatchResult result
+        (λ same. spec.exactly_one items.now ≡ Ok same.now)
+        (λ e. spec.exactly_one items.now ≡ Err e) }
 {
     if items.len() == 1 {
         Ok(items)
@@ -102,7 +108,8 @@ pub fn selected(
     start: &[Atom],
     count: Option<&[Atom]>,
 ) -> Result<Result<Atoms, Code>, AllocError>
-    ensures { IfOk result (λ answer. answer ≡ subsequence_of items.now start.now (option_copied count.entry)) }
+    ensures { IfOk result (λ answer. answer
+        ≡ subsequence_of items.now start.now (option_copied count.entry)) }
 {
     match positions(alloc, start, count)? {
         Ok(positions) => Ok(Ok(copies(alloc, subsequence(items, &positions))?)),

@@ -18,7 +18,9 @@ type Answer = Result<Result<Atoms, Code>, AllocError>;
 
 // An argument as a text.
 fn text_at(args: &Args, at: usize) -> Result<&str, Code>
-    ensures { MatchResult result (λ s. spec.text_at args.now at ≡ Ok (chars s.now)) (λ e. spec.text_at args.now at ≡ Err e) }
+    ensures { MatchResult result
+        (λ s. spec.text_at args.now at ≡ Ok (chars s.now))
+        (λ e. spec.text_at args.now at ≡ Err e) }
 {
     text(argument(args, at))
 }
@@ -74,7 +76,9 @@ fn string_join(alloc: Global, args: &Args) -> Answer
 
 // The first two arguments as texts.
 fn two_texts(args: &Args) -> Result<(&str, &str), Code>
-    ensures { MatchResult result (λ p. spec.two_texts args.now ≡ Ok (chars p.0.now, chars p.1.now)) (λ e. spec.two_texts args.now ≡ Err e) }
+    ensures { MatchResult result
+        (λ p. spec.two_texts args.now ≡ Ok (chars p.0.now, chars p.1.now))
+        (λ e. spec.two_texts args.now ≡ Err e) }
 {
     match (text_at(args, 0), text_at(args, 1)) {
         (Ok(s), Ok(t)) => Ok((s, t)),

@@ -4,7 +4,7 @@ ghost use Rattle.std.specs.Str.{chars, encode_utf8_all};
 ghost use Rattle.sx_atoms.specs.Positions.{selects, at_positions};
 ghost use Rattle.sx_fn_text.specs.Characters as spec;
 
-use crate::tables::{partner, table};
+use crate::tables::{partner, table_of};
 use std::alloc::{AllocError, Global};
 use sx_atoms::{Positions, Text};
 
@@ -35,9 +35,10 @@ pub fn cut(alloc: Global, s: &str, span: &Positions) -> Result<Text, AllocError>
 /// A text whose characters are translated from those of m to those of t. It takes a time that grows as the number of
 /// characters times the logarithm of those of m.
 pub fn translated(alloc: Global, s: &str, m: &str, t: &str) -> Result<Text, AllocError>
-    ensures { IfOk result (λ r. r ≡ encode_utf8_all (spec.translated (chars m.now) (chars t.now) (chars s.now))) }
+    ensures { IfOk result (λ r. r
+        ≡ encode_utf8_all (spec.translated (chars m.now) (chars t.now) (chars s.now))) }
 {
-    let table = table(alloc, m, t)?;
+    let table = table_of(alloc, m, t)?;
     let text: String = s.chars().filter_map(|c| partner(&table, c)).collect(alloc)?;
     Ok(Text::from_string(text))
 }

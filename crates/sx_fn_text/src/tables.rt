@@ -21,7 +21,7 @@ fn add(table: &mut Table, c: char, partner: Option<char>) -> Result<(), AllocErr
 }
 
 // A table of what characters become: those in their order, each where it stands first.
-fn paired(alloc: Global, from: &[char], to: &[char]) -> Result<Table, AllocError>
+fn filled(alloc: Global, from: &[char], to: &[char]) -> Result<Table, AllocError>
     ensures { IfOk result (λ table. Translates table from.now to.now) }
 {
     let mut table = BTreeMap::new(alloc);
@@ -40,12 +40,12 @@ fn characters(alloc: Global, s: &str) -> Result<Vec<char>, AllocError>
 
 /// The table that translates from the characters of m to those of t. It takes a time that grows as their number times its
 /// logarithm.
-pub fn table(alloc: Global, m: &str, t: &str) -> Result<Table, AllocError>
+pub fn table_of(alloc: Global, m: &str, t: &str) -> Result<Table, AllocError>
     ensures { IfOk result (λ table. Translates table (chars m.now) (chars t.now)) }
 {
     let from = characters(alloc, m)?;
     let to = characters(alloc, t)?;
-    paired(alloc, &from, &to)
+    filled(alloc, &from, &to)
 }
 
 /// What a character becomes.

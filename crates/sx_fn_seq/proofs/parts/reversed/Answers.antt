@@ -23,13 +23,13 @@ none_behind (x ∷ xs) (suc n) e = omega (arith, none_behind xs n e)
 pub loop-item-preserved : goal.loop-item-preserved
 loop-item-preserved c =
     let at : slice_get (reverse c.args.items.now) (length c.loop-item.atoms) ≡ Some c.in-Some.item.now =
-        ap (λ n. slice_get (reverse c.args.items.now) n) (sym c.len.ensures) ∙ sym c.in_reverse.ensures ∙ ap option_copied c.in-Some.is in
+    ap (λ n. slice_get (reverse c.args.items.now) n) (sym c.len.ensures) ∙ sym c.in_reverse.ensures ∙ ap option_copied c.in-Some.is in
     let pushed : c.push.new.self ≡ c.loop-item.atoms ++ c.in-Some.item.now ∷ [] =
-        c.in_ok-push.ensures.ok ∙ ap (λ a. c.loop-item.atoms ++ a ∷ []) c.in_ok-copy.ensures in
+    c.in_ok-push.ensures.ok ∙ ap (λ a. c.loop-item.atoms ++ a ∷ []) c.in_ok-copy.ensures in
     rw pushed (one_more (reverse c.args.items.now) c.loop-item.atoms c.in-Some.item.now c.loop-item.invariant at)
 
 pub returns : goal.returns
 returns c =
     let at : slice_get (reverse c.args.items.now) (length c.loop-item.atoms) ≡ None =
-        ap (λ n. slice_get (reverse c.args.items.now) n) (sym c.len.ensures) ∙ sym c.in_reverse.ensures ∙ ap option_copied c.in_default.is in
+    ap (λ n. slice_get (reverse c.args.items.now) n) (sym c.len.ensures) ∙ sym c.in_reverse.ensures ∙ ap option_copied c.in_default.is in
     c.loop-item.invariant ∙ take_all (length c.loop-item.atoms) (reverse c.args.items.now) (none_behind (reverse c.args.items.now) (length c.loop-item.atoms) at)

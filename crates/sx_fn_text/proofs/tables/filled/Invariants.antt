@@ -3,7 +3,7 @@ use Rattle.std.specs.BTreeMap.{get}
 use Rattle.std.specs.List.{position}
 use Rattle.std.specs.Ordering.{nat_cmp}
 use Rattle.sx_fn_text.specs.Characters.{partner}
-use Rattle.sx_fn_text.proofs.tables.paired.Given as goal
+use Rattle.sx_fn_text.proofs.tables.filled.Given as goal
 
 abbrev pub invariant-loop-place : goal.invariant-loop-place
 invariant-loop-place l =
