@@ -17,8 +17,8 @@ use Rattle.sx_tree.specs.declared.steps.Axis.{Axis}
 use Rattle.sx_tree.specs.declared.steps.Axis.TheVariants as axes
 use Rattle.sx_tree.specs.declared.steps.NodeTest.{NodeTest}
 use Rattle.sx_tree.specs.declared.steps.NodeTest.TheVariants as tests
-use Rattle.sx_kinds.specs.declared.expressions.ArithOp.{ArithOp}
-use Rattle.sx_kinds.specs.declared.expressions.ArithOp.TheVariants as ops
+use Rattle.sx_atoms.specs.declared.arithmetic.ArithOp.{ArithOp}
+use Rattle.sx_atoms.specs.declared.arithmetic.ArithOp.TheVariants as ops
 use Rattle.sx_kinds.specs.declared.expressions.Deep.{Deep}
 use Rattle.sx_kinds.specs.declared.expressions.Deep.TheVariants as deeps
 use Rattle.sx_kinds.specs.declared.expressions.Expr.{Expr}
