@@ -1,4 +1,10 @@
+pub mod Calls
+pub mod Formed
+pub mod Kinds
+pub mod Origins
+pub mod Parts
+pub mod Paths
 pub mod Settled
-pub mod Spines
 pub mod Types
+pub mod Ways
 pub mod formers

@@ -58,7 +58,7 @@ type_at _ here ty = ty
 abbrev pub form_in : ExprForm → Place → Typing → ExprForm
 form_in (forms.Path per_item) here t = forms.Path (is_per_item t.shape)
 form_in (forms.Var x ty) here t = forms.Var x (type_in x here.vars)
-form_in (forms.Call f ty) here t = forms.Call f (type_at f here ty)
+form_in (forms.Call f ty accumulator) here t = forms.Call f (type_at f here ty) accumulator
 form_in form here t = form
 
 -- how an expression behind `//` is read: a child step without a positional predicate as one on the descendant axis
@@ -146,7 +146,7 @@ bare_type _ ty = ty
 abbrev pub bare_form : ExprForm → ExprForm
 bare_form (forms.Path per_item) = forms.Path false
 bare_form (forms.Var x ty) = forms.Var x (many kinds.Any)
-bare_form (forms.Call f ty) = forms.Call f (bare_type f ty)
+bare_form (forms.Call f ty accumulator) = forms.Call f (bare_type f ty) accumulator
 bare_form form = form
 
 -- a reading of `//` that has not been looked at

@@ -1,8 +1,9 @@
 // Lists of what may hold such lists.
-ghost use Rattle.std.specs.Prelude.{◌≡◌, [], ◌∷◌, ◌++◌, length, IsTrue, ◌↔◌, MatchOption, OnOk, OnErr};
+ghost use Rattle.std.specs.Prelude.{◌≡◌, ◌<◌, [], ◌∷◌, ◌++◌, length, slice_index_or, slice_set, IsTrue, ◌↔◌, MatchOption, OnOk, OnErr};
 
 use std::alloc::{AllocError, Global};
 use std::marker::Model;
+use std::mem;
 
 /// What hangs below a value of a tree: a list, which contracts see as that. Its drop is a call of its own, so that a tree's own
 /// drop may take the list apart and be a loop.
@@ -63,6 +64,17 @@ impl<T> Branches<T> {
         ensures { MatchOption result ((self.old ≡ []) × (self.new ≡ [])) (λ last. self.old ≡ self.new ++ last ∷ []) }
     {
         self.items.pop()
+    }
+}
+
+impl<T> Branches<T> {
+    /// Takes one out, by its place from 0, and puts another one there.
+    pub fn replace(&mut self, place: usize, item: T) -> T
+        requires { place < length self.old }
+        ensures taken { result ≡ slice_index_or self.old place result }
+        ensures put { self.new ≡ slice_set self.old place item }
+    {
+        mem::replace(&mut self.items[place], item)
     }
 }
 
