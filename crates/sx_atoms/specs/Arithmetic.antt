@@ -1,7 +1,10 @@
 -- Arithmetic (XPath 3.1, 3.5), over all integers. A decimal is a number of units of 10^-9.
-use Rattle.std.specs.Prelude.{if◌then◌else◌, [], ◌∷◌, Result, Ok, Err, ℤ, ◌+ℤ◌, ◌-ℤ◌, ◌*ℤ◌, int_div, int_rem}
+use Rattle.std.specs.Prelude.{Bool, if◌then◌else◌, [], ◌∷◌, Result, Ok, Err, ℤ, neg_ℤ, ◌+ℤ◌, ◌-ℤ◌, ◌*ℤ◌, int_div, int_rem}
 use Rattle.sx_atoms.specs.Numbers.{◌>>=◌, by_way_of, one, is_zero, paired}
+use Rattle.sx_atoms.specs.Laws.{atom_of}
 use Rattle.sx_atoms.specs.Lexical.{decimal_in}
+use Rattle.sx_atoms.specs.declared.arithmetic.ArithOp.{ArithOp}
+use Rattle.sx_atoms.specs.declared.arithmetic.ArithOp.TheVariants as op
 use Rattle.sx_atoms.specs.declared.atoms.Atom.{Atom}
 use Rattle.sx_atoms.specs.declared.atoms.Atom.TheVariants as atom
 use Rattle.sx_atoms.specs.declared.atoms.Dec.{Dec}
@@ -84,3 +87,23 @@ whole_quotient_of (Units a b) = by_way_of (int_div a b ∷ []) (atom.Int (int_di
 abbrev pub remainder_of : Operands → Result Atom Code
 remainder_of (Ints a b) = by_way_of (int_rem a b ∷ []) (atom.Int (int_rem a b))
 remainder_of (Units a b) = by_way_of (int_rem a b ∷ []) (atom.Dec (dec (int_rem a b)))
+
+-- what an operator makes of two atoms
+abbrev pub calculation_of : ArithOp → Atom → Atom → Result Atom Code
+calculation_of op.Add a b = with_operands sum_of a b
+calculation_of op.Sub a b = with_operands difference_of a b
+calculation_of op.Mul a b = with_operands product_of a b
+calculation_of op.Div a b = with_divisor quotient_of a b
+calculation_of op.Idiv a b = with_divisor whole_quotient_of a b
+calculation_of op.Mod a b = with_divisor remainder_of a b
+
+-- the opposite of a number
+abbrev pub opposite_of : Number → Result Atom Code
+opposite_of (number.Int n) = by_way_of (neg_ℤ n ∷ []) (atom.Int (neg_ℤ n))
+opposite_of (number.Dec d) = by_way_of (neg_ℤ d.0 ∷ []) (atom.Dec (dec (neg_ℤ d.0)))
+
+-- the number that an atom is, behind a sign: a minus makes the opposite of it, and a plus changes nothing
+abbrev pub signed_of : Bool → Atom → Result Atom Code
+signed_of is_minus a = do
+  n ← number_of a
+  if is_minus then opposite_of n else Ok (atom_of n)

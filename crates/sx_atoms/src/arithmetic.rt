@@ -1,14 +1,25 @@
 // Arithmetic of atoms.
 ghost use Rattle.std.specs.Prelude.{◌≡◌, ◌≢◌, pos, IfOk};
-ghost use Rattle.sx_atoms.specs.Arithmetic.{number_of, operands_of, dividend_and_divisor_of, with_operands, with_divisor, sum_of, difference_of, product_of, decimal_quotient, quotient_of, whole_quotient_of, remainder_of};
+ghost use Rattle.sx_atoms.specs.Arithmetic.{number_of, operands_of, dividend_and_divisor_of, with_operands, with_divisor, sum_of, difference_of, product_of, decimal_quotient, quotient_of, whole_quotient_of, remainder_of, calculation_of, signed_of};
 ghost use Rattle.sx_atoms.specs.Numbers.{divisor_of};
 
 use crate::atoms::{Atom, Dec};
 use crate::error_codes::Code;
 use crate::lexical::decimal;
 use crate::numbers::{
-    Number, Operands, UNITS, difference, paired, product, quotient, remainder, sum,
+    Number, Operands, UNITS, difference, opposite, paired, product, quotient, remainder, sum,
 };
+
+/// An operator of arithmetic: `+`, `-`, `*`, `div`, `idiv` and `mod` (XPath 3.1, 3.5).
+#[derive(Clone, Copy, Debug, PartialEq, Eq)]
+pub enum ArithOp {
+    Add,
+    Sub,
+    Mul,
+    Div,
+    Idiv,
+    Mod,
+}
 
 // The number that an atom is as an operand.
 fn number(atom: &Atom) -> Result<Number, Code>
@@ -115,5 +126,34 @@ pub fn rem(a: &Atom, b: &Atom) -> Result<Atom, Code>
     match dividend_and_divisor(a, b)? {
         Operands::Ints(a, b) => Ok(Atom::Int(remainder(a, b))),
         Operands::Units(a, b) => Ok(Atom::Dec(Dec(remainder(a, b)))),
+    }
+}
+
+/// What an operator of arithmetic makes of two atoms; the codes are those of the operator (XPath 3.1, 3.5). It takes no
+/// memory.
+pub fn calculate(op: ArithOp, a: &Atom, b: &Atom) -> Result<Atom, Code>
+    ensures { result ≡ calculation_of op a.now b.now }
+{
+    match op {
+        ArithOp::Add => add(a, b),
+        ArithOp::Sub => sub(a, b),
+        ArithOp::Mul => mul(a, b),
+        ArithOp::Div => div(a, b),
+        ArithOp::Idiv => idiv(a, b),
+        ArithOp::Mod => rem(a, b),
+    }
+}
+
+/// A number behind a sign, a minus or a plus (XPath 3.1, 3.5): an integer of an integer, and else a decimal. XPTY0004 for a
+/// string or a truth value, the code of the cast to a decimal for text without a type, FOAR0002 where the opposite of a
+/// number is too great. It takes no memory.
+pub fn signed(is_minus: bool, a: &Atom) -> Result<Atom, Code>
+    ensures { result ≡ signed_of is_minus a.now }
+{
+    match (is_minus, number(a)?) {
+        (false, Number::Int(n)) => Ok(Atom::Int(n)),
+        (false, Number::Dec(d)) => Ok(Atom::Dec(d)),
+        (true, Number::Int(n)) => Ok(Atom::Int(opposite(n)?)),
+        (true, Number::Dec(d)) => Ok(Atom::Dec(Dec(opposite(d.0)?))),
     }
 }

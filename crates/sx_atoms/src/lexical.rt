@@ -5,7 +5,7 @@ ghost use Rattle.std.specs.List.{list_all, before_first, after_first, take_while
 ghost use Rattle.std.specs.Str.Parse.{starts_with_minus, without_leading_sign};
 ghost use Rattle.sx_atoms.specs.Numbers.{held};
 ghost use Rattle.sx_atoms.specs.Lexical as spec;
-ghost use Rattle.sx_atoms.specs.Lexical.{digits_value, with_sign, units_of, decimal_in, integer_in, truth_in, is_point};
+ghost use Rattle.sx_atoms.specs.Lexical.{digits_value, units_of, decimal_in, integer_in, truth_in, is_point};
 
 use crate::error_codes::Code;
 
@@ -91,8 +91,8 @@ fn append_digits(number: u128, digits: &[u8]) -> u128
 }
 
 // A number, with a minus before it or without one.
-fn signed(minus: bool, number: u128) -> Result<i128, Code>
-    ensures { result ≡ held (with_sign minus number) }
+fn with_sign(minus: bool, number: u128) -> Result<i128, Code>
+    ensures { result ≡ held (spec.with_sign minus number) }
 {
     let signed = if minus {
         0i128.checked_sub_unsigned(number)
@@ -110,7 +110,7 @@ pub fn integer(text: &[u8]) -> Result<i128, Code>
     if digits.is_empty() || !all_digits(digits) {
         return Err(Code::Forg0001);
     }
-    signed(minus, append_digits(0, digits))
+    with_sign(minus, append_digits(0, digits))
 }
 
 // The units that digits before a point and behind it write.
@@ -125,7 +125,7 @@ fn units(minus: bool, whole: &[u8], fraction: &[u8]) -> Result<i128, Code>
     }
     let number = append_digits(append_digits(0, whole), fraction);
     let units = number.saturating_mul(10u128.pow(9 - fraction.len() as u32));
-    signed(minus, units)
+    with_sign(minus, units)
 }
 
 /// The decimal that a text writes, in units of 10^-9: as an integer, but with a point before, between or behind the digits

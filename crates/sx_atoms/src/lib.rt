@@ -18,7 +18,7 @@ mod rounding;
 mod signature;
 mod span;
 
-pub use arithmetic::{add, div, idiv, mul, rem, sub};
+pub use arithmetic::{ArithOp, add, calculate, div, idiv, mul, rem, signed, sub};
 pub use atoms::{Args, Atom, AtomType, Atoms, Dec, Text};
 pub use casting::{cast, castable};
 pub use comparison::{CmpOp, compare};

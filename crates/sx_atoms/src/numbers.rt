@@ -1,5 +1,5 @@
 // Numbers as operands, and integers that may leave the range of an i128.
-ghost use Rattle.std.specs.Prelude.{◌≡◌, ◌≢◌, pos, ◌+ℤ◌, ◌-ℤ◌, ◌*ℤ◌, int_div, int_rem, Ok};
+ghost use Rattle.std.specs.Prelude.{◌≡◌, ◌≢◌, pos, neg_ℤ, ◌+ℤ◌, ◌-ℤ◌, ◌*ℤ◌, int_div, int_rem, Ok};
 ghost use Rattle.sx_atoms.specs.Numbers as spec;
 ghost use Rattle.sx_atoms.specs.Numbers.{held};
 
@@ -35,6 +35,13 @@ pub fn difference(a: i128, b: i128) -> Result<i128, Code>
     ensures { result ≡ held (a -ℤ b) }
 {
     a.checked_sub(b).ok_or(Code::Foar0002)
+}
+
+/// The opposite, or FOAR0002.
+pub fn opposite(n: i128) -> Result<i128, Code>
+    ensures { result ≡ held (neg_ℤ n) }
+{
+    difference(0, n)
 }
 
 /// The product, or FOAR0002.

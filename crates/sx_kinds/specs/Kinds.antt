@@ -6,8 +6,8 @@ use Rattle.sx_atoms.specs.declared.atoms.AtomType.{AtomType}
 use Rattle.sx_atoms.specs.declared.atoms.AtomType.TheVariants as to
 use Rattle.sx_tree.specs.declared.steps.NodeTest.{NodeTest}
 use Rattle.sx_tree.specs.declared.steps.NodeTest.TheVariants as tests
-use Rattle.sx_kinds.specs.declared.expressions.ArithOp.{ArithOp}
-use Rattle.sx_kinds.specs.declared.expressions.ArithOp.TheVariants as ops
+use Rattle.sx_atoms.specs.declared.arithmetic.ArithOp.{ArithOp}
+use Rattle.sx_atoms.specs.declared.arithmetic.ArithOp.TheVariants as ops
 use Rattle.sx_kinds.specs.declared.types.TyKind.{TyKind}
 use Rattle.sx_kinds.specs.declared.types.TyKind.TheVariants as kinds
 

@@ -7,19 +7,8 @@ use crate::constructs::Construct;
 use crate::types::Ty;
 use sqlite_items::Items;
 use std::alloc::{AllocError, Global};
-use sx_atoms::{Atom, AtomType, CmpOp, SeqFn, TextFn};
+use sx_atoms::{ArithOp, Atom, AtomType, CmpOp, SeqFn, TextFn};
 use sx_tree::{Axis, Chars, NodeTest};
-
-/// An operator of arithmetic (XPath 3.1, 3.5).
-#[derive(Clone, Copy, Debug, PartialEq, Eq)]
-pub enum ArithOp {
-    Add,
-    Sub,
-    Mul,
-    Div,
-    Idiv,
-    Mod,
-}
 
 /// A function.
 #[derive(Clone, Copy, Debug, PartialEq, Eq)]

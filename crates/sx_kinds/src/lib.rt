@@ -11,7 +11,8 @@ mod walks;
 
 pub use branches::Branches;
 pub use constructs::{Body, Construct, ConstructKind, Instr, InstrForm, NamePattern, copy_body};
-pub use expressions::{ArithOp, AvtPart, AvtParts, Deep, Expr, ExprForm, Exprs, Function, Pattern};
+pub use expressions::{AvtPart, AvtParts, Deep, Expr, ExprForm, Exprs, Function, Pattern};
 pub use sheets::{Mode, Modes, OnNoMatch, Sheet, Template, Templates};
+pub use sx_atoms::ArithOp;
 pub use types::{Origin, Parts, Shape, Start, Ty, TyKind, Typing, VarType, VarTypes};
 pub use walks::Way;

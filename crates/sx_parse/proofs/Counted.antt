@@ -2,7 +2,7 @@
 use Rattle.std.proofs.Common.{◌≡◌, ℕ, suc, ◌+◌, ◌*◌, ◌≤◌, Bool, true, false, List, [], ◌∷◌, ◌++◌, length, map, None, ap, sym, ◌∙◌, subst, arith, length-append}
 use Rattle.sx_kinds.specs.declared.constructs.ConstructKind.{ConstructKind}
 use Rattle.sx_kinds.specs.declared.constructs.ConstructKind.TheVariants as kind
-use Rattle.sx_kinds.specs.declared.expressions.ArithOp.TheVariants as arith_op
+use Rattle.sx_atoms.specs.declared.arithmetic.ArithOp.TheVariants as arith_op
 use Rattle.sx_kinds.specs.declared.expressions.Deep.TheVariants as deep
 use Rattle.sx_kinds.specs.declared.expressions.Expr.{Expr}
 use Rattle.sx_kinds.specs.declared.expressions.Expr.TheFolds.{fold_out-Expr, fold-roll-Expr, ind-Expr}

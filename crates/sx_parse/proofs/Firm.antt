@@ -1,6 +1,6 @@
 -- Each token that is read adds one role, but a token that turns the name before it says anew what that name is.
 use Rattle.std.proofs.Common.{◌≡◌, ℕ, suc, ◌+◌, Bool, true, false, not, ◌&&◌, if◌then◌else◌, nat_le, List, [], ◌∷◌, ◌++◌, length, Option, Some, None, refl, ap, sym, ◌∙◌, append_assoc, append-nil, arith, length-append}
-use Rattle.sx_kinds.specs.declared.expressions.ArithOp.TheVariants as arith_op
+use Rattle.sx_atoms.specs.declared.arithmetic.ArithOp.TheVariants as arith_op
 use Rattle.sx_parse.specs.declared.lexemes.Operator.{Operator}
 use Rattle.sx_parse.specs.declared.lexemes.Operator.TheVariants as operator
 use Rattle.sx_parse.specs.declared.lexemes.Casting.{Casting}

@@ -1,7 +1,7 @@
 -- What the code keeps in each state of the machine, and that both agree where an operand has to come.
 use Rattle.std.proofs.Common.{◌≡◌, ℕ, suc, ◌^◌, ◌<◌, ◌≤◌, Bool, true, false, ◌&&◌, not, if◌then◌else◌, nat_le, nat_eq, List, [], ◌∷◌, ◌++◌, length, Option, Some, None, Ok, Err, refl, ap, ◌∙◌, arith, append_assoc, append-nil, length-append}
 use Rattle.std.proofs.Math.Dec.{eqb-suc-zero}
-use Rattle.sx_kinds.specs.declared.expressions.ArithOp.TheVariants as arith_op
+use Rattle.sx_atoms.specs.declared.arithmetic.ArithOp.TheVariants as arith_op
 use Rattle.sx_parse.specs.declared.lexemes.Operator.TheVariants as operator
 use Rattle.sx_parse.specs.declared.lexemes.Mark.{Mark}
 use Rattle.sx_parse.specs.declared.lexemes.Mark.TheVariants as mark

@@ -1,6 +1,6 @@
 -- The code reads as the machine of the definitions does: what it keeps is what the machine has, token by token.
 use Rattle.std.proofs.Common.{◌≡◌, ℕ, suc, ◌^◌, ◌<◌, Bool, ◌&&◌, not, nat_le, nat_eq, List, [], ◌∷◌, ◌++◌, length, Ok, refl, ap, sym, ◌∙◌, arith, append_assoc, append-nil, length-append}
-use Rattle.sx_kinds.specs.declared.expressions.ArithOp.TheVariants as arith_op
+use Rattle.sx_atoms.specs.declared.arithmetic.ArithOp.TheVariants as arith_op
 use Rattle.sx_parse.specs.declared.lexemes.Operator.TheVariants as operator
 use Rattle.sx_parse.specs.declared.lexemes.Binder.{Binder}
 use Rattle.sx_parse.specs.declared.lexemes.Casting.{Casting}

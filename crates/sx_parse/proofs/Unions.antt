@@ -4,7 +4,7 @@ use Rattle.std.proofs.lemmas.Bool.{false≢true}
 use Rattle.std.proofs.lemmas.List.{same_from_push}
 use Rattle.sx_kinds.specs.declared.constructs.ConstructKind.{ConstructKind}
 use Rattle.sx_kinds.specs.declared.constructs.ConstructKind.TheVariants as kind
-use Rattle.sx_kinds.specs.declared.expressions.ArithOp.TheVariants as arith_op
+use Rattle.sx_atoms.specs.declared.arithmetic.ArithOp.TheVariants as arith_op
 use Rattle.sx_kinds.specs.declared.expressions.Deep.TheVariants as deep
 use Rattle.sx_kinds.specs.declared.expressions.Expr.{Expr}
 use Rattle.sx_kinds.specs.declared.expressions.Expr.TheOpen.{Expr-F}

@@ -2,7 +2,7 @@
 -- of a level: 0 Expr, 1 Single, 2 Or, 3 And, 4 Comp, 5 Cat, 6 Range, 7 Add, 8 Mul, 9 Union, 10 Castable, 11 Cast, 12 Unary, 13 Map,
 -- 14 Path, 15 a Path that steps may follow, 16 Step.
 use Rattle.std.specs.Prelude.{◌≡◌, ℕ, suc, ◌<◌, ◌≤◌, Bool, true, false, ◌&&◌, List, [], ◌∷◌, ◌++◌, length, take, Option, Some, None}
-use Rattle.sx_kinds.specs.declared.expressions.ArithOp.TheVariants as arith
+use Rattle.sx_atoms.specs.declared.arithmetic.ArithOp.TheVariants as arith
 use Rattle.sx_tree.specs.declared.steps.Axis.{Axis}
 use Rattle.sx_tree.specs.declared.steps.Axis.TheVariants as axis
 use Rattle.sx_parse.specs.declared.lexemes.Operator.{Operator}

@@ -2,7 +2,7 @@
 use Rattle.std.specs.Prelude.{ℕ, suc, ◌-◌, true, false, List, [], ◌∷◌, take, drop, bytes_eq, codes, Option, Some, None, if◌then◌else◌}
 use Rattle.sx_atoms.specs.declared.comparison.CmpOp.TheVariants as cmp
 use Rattle.sx_chars.specs.Names.{behind}
-use Rattle.sx_kinds.specs.declared.expressions.ArithOp.TheVariants as arith
+use Rattle.sx_atoms.specs.declared.arithmetic.ArithOp.TheVariants as arith
 use Rattle.sx_lex.specs.declared.kinds.Token.{Token}
 use Rattle.sx_lex.specs.declared.kinds.TokenKind.{TokenKind}
 use Rattle.sx_lex.specs.declared.kinds.TokenKind.TheVariants as token_kind

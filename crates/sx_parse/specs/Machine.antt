@@ -1,6 +1,6 @@
 -- Reading token by token, with what is open and what is pending.
 use Rattle.std.specs.Prelude.{ℕ, suc, Bool, true, false, ◌&&◌, ◌||◌, not, if◌then◌else◌, nat_le, nat_eq, List, [], ◌∷◌, Option, Some, None, Result, Ok, Err}
-use Rattle.sx_kinds.specs.declared.expressions.ArithOp.TheVariants as arith
+use Rattle.sx_atoms.specs.declared.arithmetic.ArithOp.TheVariants as arith
 use Rattle.sx_parse.specs.declared.lexemes.Operator.{Operator}
 use Rattle.sx_parse.specs.declared.lexemes.Operator.TheVariants as operator
 use Rattle.sx_parse.specs.declared.lexemes.Casting.{Casting}

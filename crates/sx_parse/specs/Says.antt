@@ -9,7 +9,7 @@ use Rattle.sx_atoms.specs.declared.functions.SeqFn.TheVariants as seq_fn
 use Rattle.sx_chars.specs.Names.{prefix_of, local_of}
 use Rattle.sx_kinds.specs.declared.constructs.ConstructKind.{ConstructKind}
 use Rattle.sx_kinds.specs.declared.constructs.ConstructKind.TheVariants as kind
-use Rattle.sx_kinds.specs.declared.expressions.ArithOp.TheVariants as arith
+use Rattle.sx_atoms.specs.declared.arithmetic.ArithOp.TheVariants as arith
 use Rattle.sx_kinds.specs.declared.expressions.Deep.TheVariants as deep
 use Rattle.sx_kinds.specs.declared.expressions.Expr.{Expr}
 use Rattle.sx_kinds.specs.declared.expressions.Expr.TheViews.{roll-Expr, out-Expr}

@@ -14,5 +14,5 @@ returns c =
     let w : list_all is_ascii_digit whole ≡ true = cc in
     let f : list_all is_ascii_digit fraction ≡ true = cc in
     let some : 0 < length whole + length fraction = grind (arith, nat_tests) in
-    c.signed.ensures ∙ written c.args.minus whole fraction c.saturating_mul-units.result w f some (omega arith)
+    c.with_sign.ensures ∙ written c.args.minus whole fraction c.saturating_mul-units.result w f some (omega arith)
     (scaled (10 ^ length whole) (length fraction) (digits_value whole) (digits_value fraction) c.saturating_mul-units.result c.append_digits.result c.append_digits-number.result (omega arith) c.append_digits.ensures c.append_digits-number.ensures cc)
