@@ -4,6 +4,7 @@ pub mod Kinds
 pub mod Origins
 pub mod Parts
 pub mod Paths
+pub mod Patterns
 pub mod Settled
 pub mod Types
 pub mod Ways

@@ -11,7 +11,6 @@ use Rattle.sx_kinds.specs.declared.expressions.ExprForm.{ExprForm}
 use Rattle.sx_kinds.specs.declared.types.Parts.{Parts}
 use Rattle.sx_kinds.specs.declared.types.Ty.{Ty}
 use Rattle.sx_kinds.specs.declared.types.Typing.{Typing}
-use Rattle.sx_types.specs.Descent.{Standing}
 
 -- what is known of parts together, or the first code of one
 abbrev pub together : Result (List Typing) Code → Result Parts Code
@@ -48,10 +47,11 @@ IsBegun e outer parts known =
     (parts ++ settled_parts (out-Expr e).form (inside e outer) before (map settling_of (drop (length parts) (out-Expr e).parts)) ≡
     settled_parts (out-Expr e).form (inside e outer) (Ok []) (map settling_of (out-Expr e).parts))
 
--- what lies below an expression in this place, settled where it stands
-abbrev pub settled_at : Place → Standing → Expr
-settled_at outer at = settled at.expr (record outer { context = at.context })
+-- an expression alone, settled in this place, and what is known of it
+abbrev pub IsSettledAt : Place → Expr → List Expr → Result Typing Code → Type 0
+IsSettledAt outer e parts known = (parts ≡ settled e outer ∷ []) × (known ≡ typing (settled e outer) outer.context)
 
--- that alone, and what is known of it
-abbrev pub IsSettledAt : Place → Standing → List Expr → Result Typing Code → Type 0
-IsSettledAt outer at parts known = (parts ≡ settled_at outer at ∷ []) × (known ≡ typing (settled_at outer at) at.context)
+-- an alternative of a pattern behind these: settled, or as it was behind one that has a code
+abbrev pub next_alternative : Place → Result (Unit {0}) Code → Expr → Expr
+next_alternative here (Err code) e = e
+next_alternative here (Ok all) e = settled e here

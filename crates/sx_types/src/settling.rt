@@ -6,19 +6,18 @@ ghost use Rattle.sx_kinds.specs.Types.{below, each, focus as focus_of, type_of, 
 ghost use Rattle.sx_kinds.specs.declared.expressions.Expr.TheViews.{out-Expr};
 ghost use Rattle.sx_kinds.specs.declared.types.Ty.{Ty as AnyTy};
 ghost use Rattle.sx_kinds.specs.declared.types.Typing.{Typing as AnyTyping};
-ghost use Rattle.sx_kinds.specs.Spines.{levels};
-ghost use Rattle.sx_types.specs.Descent.{down, standing};
+ghost use Rattle.sx_kinds.specs.Ways.{front, levels};
+ghost use Rattle.sx_kinds.specs.declared.walks.Way.TheVariants.{OneFocus};
 ghost use Rattle.sx_types.specs.Places.{place_of};
 ghost use Rattle.sx_types.specs.Settling.{IsBegun, IsSettledAt, known_after, known_from, next_part, together};
 
-use crate::descent::fall;
 use crate::forms::{focus, known_by};
 use crate::parts::{and_one, none};
 use crate::paths;
 use crate::places::{Place, Scope, bound, deep_in, form_in};
 use std::alloc::{AllocError, Global};
 use sx_atoms::Code;
-use sx_kinds::{Deep, Expr, ExprForm, Exprs, Parts, Ty, Typing, VarTypes};
+use sx_kinds::{Deep, Expr, ExprForm, Exprs, Parts, Ty, Typing, VarTypes, Way};
 
 // What is known of an expression by its form and what is known of its parts.
 fn answered(
@@ -209,8 +208,8 @@ fn settle_level(
     finish(alloc, e, &here, parts, &known, done)
 }
 
-// Puts an expression, settled in a place, behind others, where what lies so many first parts below is settled and this is
-// known of it. The answer is what is known of the whole. Halving keeps the calls within one another few.
+// Puts an expression, settled in a place, behind others, where what lies so many first parts below in its focus is settled and
+// this is known of it. The answer is what is known of the whole. Halving keeps the calls within one another few.
 #[cycle(settling)]
 fn settle_rise(
     alloc: Global,
@@ -222,8 +221,8 @@ fn settle_rise(
     done: &mut Exprs,
 ) -> Result<Result<Typing, Code>, AllocError>
     requires above { 0 < n }
-    requires within { n ≤ levels e.now }
-    requires below { IsSettledAt (place_of place.now) (down n (standing e.now place.now.context)) parts known }
+    requires within { n ≤ levels OneFocus e.now }
+    requires below { IsSettledAt (place_of place.now) (front OneFocus n e.now) parts known }
     ensures { IfOk result (λ answer. let made = spec.settled e.now (place_of place.now) in
         (done.new ≡ done.old ++ made ∷ []) × (answer ≡ typing made place.now.context)) }
 {
@@ -232,21 +231,15 @@ fn settle_rise(
         return settle_level(alloc, e, place, parts, first, done);
     }
     let half = n / 2;
-    let (middle, context) = fall(e, &place.context, half);
-    let here = Place {
-        context,
-        current: place.current,
-        group: place.group,
-        scope: place.scope,
-    };
+    let middle = e.below(Way::OneFocus, half);
     let mut halfway = Exprs::new(alloc);
-    let answer = settle_rise(alloc, middle, &here, n - half, parts, known, &mut halfway)?;
+    let answer = settle_rise(alloc, middle, place, n - half, parts, known, &mut halfway)?;
     settle_rise(alloc, e, place, half, halfway, answer, done)
 }
 
-// Puts an expression, settled in a place, behind others. The answer is what is known of it then.
+/// Puts an expression, settled in a place, behind others. The answer is what is known of it then.
 #[cycle(settling)]
-fn settle_in(
+pub fn settle_in(
     alloc: Global,
     e: &Expr,
     place: &Place<'_>,
@@ -255,22 +248,16 @@ fn settle_in(
     ensures { IfOk result (λ answer. let made = spec.settled e.now (place_of place.now) in
         (done.new ≡ done.old ++ made ∷ []) × (answer ≡ typing made place.now.context)) }
 {
-    let n = e.levels();
+    let n = e.levels(Way::OneFocus);
     if n == 0 {
         return settle_level(alloc, e, place, Exprs::new(alloc), Ok(none()), done);
     }
-    let (bottom, context) = fall(e, &place.context, n);
-    let here = Place {
-        context,
-        current: place.current,
-        group: place.group,
-        scope: place.scope,
-    };
+    let bottom = e.below(Way::OneFocus, n);
     let mut parts = Exprs::new(alloc);
     let answer = settle_level(
         alloc,
         bottom,
-        &here,
+        place,
         Exprs::new(alloc),
         Ok(none()),
         &mut parts,
