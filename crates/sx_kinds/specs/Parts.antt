@@ -16,7 +16,13 @@ use Rattle.sx_kinds.specs.Origins.{one, is_source}
 
 -- what is known of a part that is not there
 abbrev pub missing : Typing
-missing = record { ty = one kinds.Nothing; shape = shapes.Other; deep = false; start = starts.Nowhere; counts = false }
+missing = record {
+  ty = one kinds.Nothing;
+  shape = shapes.Other;
+  deep = false;
+  start = starts.Nowhere;
+  counts = false;
+}
 
 -- what is known of a part that may be there
 abbrev pub there : Option Typing → Typing

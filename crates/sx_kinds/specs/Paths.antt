@@ -88,7 +88,8 @@ names_one _ = false
 
 -- a step (3.3.2)
 abbrev pub step : Ty → Axis → NodeTest → Ty
-step context axes.Attribute test = record { kind = kinds.Attribute; at_most_one = names_one test; origin = context.origin }
+step context axes.Attribute test =
+    record { kind = kinds.Attribute; at_most_one = names_one test; origin = context.origin }
 step context axes.SelfNode test = record { kind = tested test; at_most_one = true; origin = context.origin }
 step context axes.Parent test = record { kind = tested test; at_most_one = true; origin = context.origin }
 step context _ test = record { kind = tested test; at_most_one = false; origin = context.origin }
@@ -96,12 +97,19 @@ step context _ test = record { kind = tested test; at_most_one = false; origin =
 -- the nodes at and below those of the left side
 abbrev pub descendants : Ty → Ty
 descendants left =
-    along left (record { ty = step (item_of left) axes.DescendantOrSelf tests.Node; shape = shapes.Step; deep = false; start = starts.Context; counts = false })
+    along left (record {
+      ty = step (item_of left) axes.DescendantOrSelf tests.Node;
+      shape = shapes.Step;
+      deep = false;
+      start = starts.Context;
+      counts = false;
+    })
 
 -- a path (3.3): an atom has no nodes, and steps from nodes of several trees have no order, unless they are evaluated for
 -- each item of a front part
 abbrev pub path : Typing → Typing → Result Ty Code
 path left right =
     if is_atomic left.ty.kind then Err codes.Xpty0004 else
-    if is_forest left.ty.origin && not (is_per_item left.shape) && (right.deep || is_step right.shape) then Err codes.Sxst0003 else
+    if is_forest left.ty.origin && not (is_per_item left.shape) && (right.deep || is_step right.shape)
+    then Err codes.Sxst0003 else
     Ok (along (if right.deep then descendants left.ty else left.ty) right)

@@ -23,11 +23,13 @@ have_types context (Ok all) (e ∷ es) = have_types context (has_type (typing e 
 abbrev pub settled_each : Place → Result (Unit {0}) Code → List Expr → List Expr
 settled_each here (Err code) es = es
 settled_each here (Ok all) [] = []
-settled_each here (Ok all) (e ∷ es) = settled e here ∷ settled_each here (has_type (typing (settled e here) here.context)) es
+settled_each here (Ok all) (e ∷ es) =
+    settled e here ∷ settled_each here (has_type (typing (settled e here) here.context)) es
 
 -- a pattern settled in a place
 abbrev pub settled_pattern : Pattern → Place → Pattern
-settled_pattern pattern here = record pattern { alternatives = settled_each here (Ok tt) pattern.alternatives }
+settled_pattern pattern here =
+    record pattern { alternatives = settled_each here (Ok tt) pattern.alternatives }
 
 -- a pattern is settled in a place where settling it there changes nothing
 abbrev pub IsSettledPattern : Pattern → Place → Type 0

@@ -19,11 +19,19 @@ use Rattle.sx_kinds.specs.declared.types.Start.TheVariants as starts
 use Rattle.sx_kinds.specs.declared.types.Ty.{Ty}
 use Rattle.sx_kinds.specs.declared.types.TyKind.TheVariants as kinds
 use Rattle.sx_kinds.specs.declared.types.Typing.{Typing}
-pub use Rattle.sx_kinds.specs.Kinds.{rank, is_node, is_atomic, may_be_node, may_be_number, joined, atomised, as_number, extreme, signed, mixed, reckoned, summed, kind_of, kind_of_atom, tested}
-pub use Rattle.sx_kinds.specs.Origins.{one, many, is_source, is_one, is_separate, is_forest, is_same_origin, item_of, below, is_deep}
-pub use Rattle.sx_kinds.specs.Parts.{missing, there, first_of, second_of, third_of, is_step, is_child_step, is_copy, is_per_item, is_positional, is_same_start, joined_start, start_through, start_outside, origins, all_source, comma_origin, joined_all, start_of_all, parts_of}
-pub use Rattle.sx_kinds.specs.Paths.{or_source, comma, choice_origin, choice, returned, union_origin, union, path_origin, along, names_one, step, descendants, path}
-pub use Rattle.sx_kinds.specs.Calls.{text_call, copied, seq_call, called, argument, called_shape, called_start, is_count}
+pub use Rattle.sx_kinds.specs.Kinds.{rank, is_node, is_atomic, may_be_node, may_be_number, joined, atomised}
+pub use Rattle.sx_kinds.specs.Kinds.{as_number, extreme, signed, mixed, reckoned, summed, kind_of}
+pub use Rattle.sx_kinds.specs.Kinds.{kind_of_atom, tested}
+pub use Rattle.sx_kinds.specs.Origins.{one, many, is_source, is_one, is_separate, is_forest, is_same_origin}
+pub use Rattle.sx_kinds.specs.Origins.{item_of, below, is_deep}
+pub use Rattle.sx_kinds.specs.Parts.{missing, there, first_of, second_of, third_of, is_step, is_child_step}
+pub use Rattle.sx_kinds.specs.Parts.{is_copy, is_per_item, is_positional, is_same_start, joined_start}
+pub use Rattle.sx_kinds.specs.Parts.{start_through, start_outside, origins, all_source, comma_origin}
+pub use Rattle.sx_kinds.specs.Parts.{joined_all, start_of_all, parts_of}
+pub use Rattle.sx_kinds.specs.Paths.{or_source, comma, choice_origin, choice, returned, union_origin, union}
+pub use Rattle.sx_kinds.specs.Paths.{path_origin, along, names_one, step, descendants, path}
+pub use Rattle.sx_kinds.specs.Calls.{text_call, copied, seq_call, called, argument, called_shape}
+pub use Rattle.sx_kinds.specs.Calls.{called_start, is_count}
 
 -- the type of an expression, by its form and what is known of its parts; or the code of a construct that has none
 abbrev pub type_by : ExprForm → Ty → Parts → Result Ty Code
@@ -38,7 +46,8 @@ type_by forms.And context parts = Ok (one kinds.Boolean)
 type_by (forms.Compare op general) context parts = Ok (one kinds.Boolean)
 type_by forms.Concat context parts = Ok (one kinds.Str)
 type_by forms.Range context parts = Ok (many kinds.Integer)
-type_by (forms.Arith op) context parts = Ok (one (reckoned op (there parts.first).ty.kind (there parts.second).ty.kind))
+type_by (forms.Arith op) context parts =
+    Ok (one (reckoned op (there parts.first).ty.kind (there parts.second).ty.kind))
 type_by (forms.Unary minus) context parts = Ok (one (signed (as_number (there parts.first).ty.kind)))
 type_by forms.Union context parts = union (there parts.first) (there parts.second)
 type_by (forms.Castable type optional) context parts = Ok (one kinds.Boolean)
@@ -51,12 +60,14 @@ type_by (forms.Literal atom) context parts = Ok (one (kind_of_atom atom))
 type_by (forms.Var x ty) context parts = Ok ty
 type_by forms.Empty context parts = Ok (one kinds.Nothing)
 type_by forms.Dot context parts = Ok (record context { at_most_one = true })
-type_by forms.Root context parts = Ok (record { kind = kinds.Document; at_most_one = true; origin = context.origin })
+type_by forms.Root context parts =
+    Ok (record { kind = kinds.Document; at_most_one = true; origin = context.origin })
 type_by (forms.Call f ty accumulator) context parts = Ok (called f ty (argument context parts.first))
 
 -- what a path with this left side is to what stands around it
 abbrev pub path_shape : Typing → Shape
-path_shape left = if is_separate left.ty.origin || is_per_item left.shape then shapes.PerItem else shapes.Other
+path_shape left =
+    if is_separate left.ty.origin || is_per_item left.shape then shapes.PerItem else shapes.Other
 
 -- what a step is to what stands around it, by whether it has a positional predicate
 abbrev pub step_shape : Axis → Bool → Shape
@@ -102,7 +113,13 @@ counts_by _ parts = parts.counts
 abbrev pub known_by : ExprForm → Deep → Ty → Parts → Result Typing Code
 known_by form deep context parts = do
   ty ← type_by form context parts
-  Ok (record { ty = ty; shape = shape_by form parts; deep = is_deep deep; start = start_by form parts; counts = counts_by form parts })
+  Ok (record {
+    ty = ty;
+    shape = shape_by form parts;
+    deep = is_deep deep;
+    start = start_by form parts;
+    counts = counts_by form parts;
+  })
 
 -- the context of a part, by what is known of the first one before it: the left side's item for the right side of a path, an
 -- item of what is filtered for a predicate (3.3.2, 3.2), and else that of the whole

@@ -12,7 +12,8 @@ use std::alloc::{AllocError, Global};
 // A copy of an expression, by that of its first part where there is one already.
 #[cycle(copying_expressions)]
 fn copy_level(alloc: Global, e: &Expr, first: Option<Expr>) -> Result<Expr, AllocError>
-    ensures { IfSome first (λ made. made ≡ front way.FirstParts 1 e.now) → IfOk result (λ copy. copy ≡ e.now) }
+    ensures { IfSome first (λ made. made ≡ front way.FirstParts 1 e.now)
+        → IfOk result (λ copy. copy ≡ e.now) }
 {
     let mut first = first;
     let mut parts = Exprs::new(alloc);

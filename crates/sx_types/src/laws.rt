@@ -24,7 +24,8 @@ pub fn settled_keeps()
 
 /// Settling takes no part away and puts none in.
 pub fn settled_formed()
-    ensures { (takes : Function → ℕ → Bool) (e : Expr) (here : Place) → formed takes (settled e here) ≡ formed takes e }
+    ensures { (takes : Function → ℕ → Bool) (e : Expr) (here : Place)
+        → formed takes (settled e here) ≡ formed takes e }
 {}
 
 /// A pattern that is settled in a place stays as it is when it is settled there again.
@@ -35,5 +36,6 @@ pub fn pattern_again()
 /// The type of an expression behind `//` does not depend on how that is read.
 pub fn readings()
     ensures { (e : Expr-F Expr) (a b : Deep) (context : Ty) → is_deep a ≡ is_deep b
-        → typing (roll-Expr (record e { deep = a })) context ≡ typing (roll-Expr (record e { deep = b })) context }
+        → typing (roll-Expr (record e { deep = a })) context
+        ≡ typing (roll-Expr (record e { deep = b })) context }
 {}

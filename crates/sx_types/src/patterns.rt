@@ -48,8 +48,10 @@ pub fn settle_pattern(
     group: &Ty,
     vars: &VarTypes,
 ) -> Result<Result<(), Code>, AllocError>
-    ensures settled { IfOk result (λ answer. pattern.new ≡ spec.settled_pattern pattern.old (place_at context.now group.now vars.now)) }
-    ensures stays { IfOk result (λ answer. spec.IsSettledPattern pattern.new (place_at context.now group.now vars.now)) }
+    ensures settled { IfOk result (λ answer.
+        pattern.new ≡ spec.settled_pattern pattern.old (place_at context.now group.now vars.now)) }
+    ensures stays { IfOk result (λ answer.
+        spec.IsSettledPattern pattern.new (place_at context.now group.now vars.now)) }
     ensures answer { IfOk result (λ answer. answer ≡ spec.pattern_types pattern.new context.now) }
     ensures unchanged { OnErr result (pattern.new ≡ pattern.old) }
 {

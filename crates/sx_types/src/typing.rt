@@ -43,7 +43,8 @@ fn level(e: &Expr, outer: &Ty, first: Option<Typing>) -> Result<Typing, Code>
 #[cycle(typing)]
 fn rise(e: &Expr, outer: &Ty, n: usize, answer: Typing) -> Result<Typing, Code>
     requires { n ≤ levels OneFocus e.now }
-    ensures { spec.typing (front OneFocus n e.now) outer.now ≡ Ok answer → result ≡ spec.typing e.now outer.now }
+    ensures { spec.typing (front OneFocus n e.now) outer.now ≡ Ok answer
+        → result ≡ spec.typing e.now outer.now }
 {
     if n == 0 {
         return Ok(answer);
@@ -59,8 +60,8 @@ fn rise(e: &Expr, outer: &Ty, n: usize, answer: Typing) -> Result<Typing, Code>
 
 /// What is known of an expression in a context, its static type among it, or its first code in written order, that of an inner
 /// construct before that of an outer one: XPTY0004 for atoms on the left of `/`, SXST0003 for steps or a union where the nodes
-/// may be of several copied trees. The context of a part is what `focus` says, in that of the whole behind `//` (`below`). It
-/// takes no memory.
+/// may be of several copied trees. Of a part it can be asked in the context that `focus` gives for it, from that of the whole
+/// behind `//`, which `below` gives. It takes no memory.
 #[cycle(typing)]
 pub fn typing_of(e: &Expr, context: &Ty) -> Result<Typing, Code>
     ensures { result ≡ spec.typing e.now context.now }

@@ -65,7 +65,7 @@ settle_level-returns t c =
     let stands = ap (λ (n : Ty). record { context = n; current = place.current; group = place.group; vars = bindings place.scope.now }) c.below.ensures in
     let whole = settled_by e (place_of place) here c.loop-part.parts stands all in
     subst (λ (x : Expr). IfOk c.finish.result (λ answer. (c.finish.new.done ≡ c.args.done.now ++ x ∷ []) × (answer ≡ typing x place.context))) (sym whole)
-    (c.finish.ensures inv.0 place.context inv.1 inv.2 c.below.ensures)
+    (c.finish.ensures inv.0 place.context (inv.1, inv.2, c.below.ensures))
 
 pub settle_rise-settle_level-requires : goal.settle_rise-settle_level-requires
 settle_rise-settle_level-requires t c =
