@@ -5,4 +5,5 @@ use Rattle.sx_kinds.specs.contracts.branches.Branches.{the_row}
 
 -- the list ends with the last value behind the reference at this place, and with the others as they were
 abbrev pub LendsPart : (T : RattleType) → MutBor (List T.Denot) → ℕ → MutBor T.Denot → Fml
-LendsPart T branches place part = Lends (the_row T) T branches part (λ last. slice_set branches.now place last)
+LendsPart T branches place part =
+    Lends (the_row T) T branches part (λ last. slice_set branches.now place last)
