@@ -1,4 +1,12 @@
+pub mod Calls
+pub mod Formed
+pub mod Kinds
+pub mod Lending
+pub mod Origins
+pub mod Parts
+pub mod Paths
+pub mod Patterns
 pub mod Settled
-pub mod Spines
 pub mod Types
+pub mod Ways
 pub mod formers

@@ -46,7 +46,8 @@ bound _ before = []
 
 -- where a part stands, by what is known of the first one before it
 abbrev pub inner : ExprForm → Place → Option Typing → Place
-inner form here before = record here { context = focus form here.context before; vars = here.vars ++ bound form before }
+inner form here before =
+    record here { context = focus form here.context before; vars = here.vars ++ bound form before }
 
 -- the type at a call: that of the current item, or of the current group (XSLT 3.0, 20.4.1 and 14.2.1)
 abbrev pub type_at : Function → Place → Ty → Ty
@@ -58,7 +59,7 @@ type_at _ here ty = ty
 abbrev pub form_in : ExprForm → Place → Typing → ExprForm
 form_in (forms.Path per_item) here t = forms.Path (is_per_item t.shape)
 form_in (forms.Var x ty) here t = forms.Var x (type_in x here.vars)
-form_in (forms.Call f ty) here t = forms.Call f (type_at f here ty)
+form_in (forms.Call f ty accumulator) here t = forms.Call f (type_at f here ty) accumulator
 form_in form here t = form
 
 -- how an expression behind `//` is read: a child step without a positional predicate as one on the descendant axis
@@ -98,12 +99,18 @@ deep_after deep (Ok t) = deep_in deep t
 
 -- an expression with these parts
 abbrev pub with_parts : {A : Type 0} → Expr-F A → List Expr → Expr
-with_parts e parts = roll-Expr (record { construct = e.construct; deep = e.deep; form = e.form; parts = parts })
+with_parts e parts =
+    roll-Expr (record { construct = e.construct; deep = e.deep; form = e.form; parts = parts })
 
 -- the same with its own fields settled, where it has a type
 abbrev pub finished : {A : Type 0} → Expr-F A → Place → List Expr → Result Typing Code → Expr
 finished e here parts answer =
-    roll-Expr (record { construct = e.construct; deep = deep_after e.deep answer; form = form_after e.form here answer; parts = parts })
+    roll-Expr (record {
+      construct = e.construct;
+      deep = deep_after e.deep answer;
+      form = form_after e.form here answer;
+      parts = parts;
+    })
 
 -- one expression whose parts can be settled
 abbrev pub settling : Expr-F Settling → Settling
@@ -146,7 +153,7 @@ bare_type _ ty = ty
 abbrev pub bare_form : ExprForm → ExprForm
 bare_form (forms.Path per_item) = forms.Path false
 bare_form (forms.Var x ty) = forms.Var x (many kinds.Any)
-bare_form (forms.Call f ty) = forms.Call f (bare_type f ty)
+bare_form (forms.Call f ty accumulator) = forms.Call f (bare_type f ty) accumulator
 bare_form form = form
 
 -- a reading of `//` that has not been looked at
@@ -155,4 +162,9 @@ bare_deep deep = if is_deep deep then deeps.Written else deeps.No
 
 -- an expression without what settling writes into it
 unfoldable pub bare : Expr → Expr
-bare = fold-Expr Expr (λ e. roll-Expr (record { construct = e.construct; deep = bare_deep e.deep; form = bare_form e.form; parts = e.parts }))
+bare = fold-Expr Expr (λ e. roll-Expr (record {
+  construct = e.construct;
+  deep = bare_deep e.deep;
+  form = bare_form e.form;
+  parts = e.parts;
+}))

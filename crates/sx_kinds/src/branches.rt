@@ -1,5 +1,8 @@
 // Lists of what may hold such lists.
-ghost use Rattle.std.specs.Prelude.{◌≡◌, [], ◌∷◌, ◌++◌, length, IsTrue, ◌↔◌, MatchOption, OnOk, OnErr};
+ghost use Rattle.std.specs.Prelude.{◌≡◌, ◌<◌, [], ◌∷◌, ◌++◌, length, slice_index_or, slice_set};
+ghost use Rattle.std.specs.Prelude.{IsTrue, ◌↔◌, MatchOption, OnOk, OnErr};
+ghost use Rattle.std.specs.Borrow.{sem};
+ghost use Rattle.sx_kinds.specs.Lending.{LendsPart};
 
 use std::alloc::{AllocError, Global};
 use std::marker::Model;
@@ -60,9 +63,19 @@ impl<T> Branches<T> {
 
     /// Takes the last one off.
     pub fn pop(&mut self) -> Option<T>
-        ensures { MatchOption result ((self.old ≡ []) × (self.new ≡ [])) (λ last. self.old ≡ self.new ++ last ∷ []) }
+        ensures { MatchOption result ((self.old ≡ []) × (self.new ≡ []))
+            (λ last. self.old ≡ self.new ++ last ∷ []) }
     {
         self.items.pop()
+    }
+
+    /// Lends one, by its place from 0, to be changed where it stands.
+    pub fn part_mut(&mut self, place: usize) -> &mut T
+        requires { place < length self.old }
+        ensures* writes_back { sem 𝓛 (LendsPart T.row self.entry place result) }
+        ensures value { result.now ≡ slice_index_or self.old place result.now }
+    {
+        &mut self.items[place]
     }
 }
 

@@ -1,32 +1,19 @@
 // Copies of expressions. A chain of operators is as deep as it is long, all along first parts. So a copy begins at the end of
 // these, and goes up by halves: it calls itself no deeper than there are other parts in one another, and a few levels more for
 // each of them.
-ghost use Rattle.std.specs.Prelude.{◌≡◌, ◌≤◌, IfOk, IfSome};
-ghost use Rattle.sx_kinds.specs.declared.expressions.Expr.{size-Expr};
-ghost use Rattle.sx_kinds.specs.Spines.{front};
+ghost use Rattle.std.specs.Prelude.{◌≡◌, IfOk, IfSome};
+ghost use Rattle.sx_kinds.specs.Ways.{front};
+ghost use Rattle.sx_kinds.specs.declared.walks.Way.TheVariants as way;
 
 use crate::expressions::{Expr, ExprForm, Exprs};
+use crate::walks::Way;
 use std::alloc::{AllocError, Global};
-
-// The expression so many first parts below this one, or the last one on that way.
-fn below(mut e: &Expr, mut count: usize) -> &Expr
-    ensures is { result.now ≡ front count e.now }
-    ensures smaller { size-Expr result.now ≤ size-Expr e.now }
-{
-    while count > 0 {
-        let Some(first) = e.parts.as_slice().first() else {
-            return e;
-        };
-        e = first;
-        count -= 1;
-    }
-    e
-}
 
 // A copy of an expression, by that of its first part where there is one already.
 #[cycle(copying_expressions)]
 fn copy_level(alloc: Global, e: &Expr, first: Option<Expr>) -> Result<Expr, AllocError>
-    ensures { IfSome first (λ made. made ≡ front 1 e.now) → IfOk result (λ copy. copy ≡ e.now) }
+    ensures { IfSome first (λ made. made ≡ front way.FirstParts 1 e.now)
+        → IfOk result (λ copy. copy ≡ e.now) }
 {
     let mut first = first;
     let mut parts = Exprs::new(alloc);
@@ -47,7 +34,7 @@ fn copy_level(alloc: Global, e: &Expr, first: Option<Expr>) -> Result<Expr, Allo
 // A copy of an expression, by that of the one so many first parts below it.
 #[cycle(copying_expressions)]
 fn copy_up(alloc: Global, e: &Expr, count: usize, made: Expr) -> Result<Expr, AllocError>
-    ensures { made ≡ front count e.now → IfOk result (λ copy. copy ≡ e.now) }
+    ensures { made ≡ front way.FirstParts count e.now → IfOk result (λ copy. copy ≡ e.now) }
 {
     if count == 0 {
         return Ok(made);
@@ -56,7 +43,7 @@ fn copy_up(alloc: Global, e: &Expr, count: usize, made: Expr) -> Result<Expr, Al
         return copy_level(alloc, e, Some(made));
     }
     let half = count / 2;
-    let middle = below(e, half);
+    let middle = e.below(Way::FirstParts, half);
     let made = copy_up(alloc, middle, count - half, made)?;
     copy_up(alloc, e, half, made)
 }
@@ -67,8 +54,8 @@ impl Expr {
     pub fn copy(alloc: Global, e: &Expr) -> Result<Expr, AllocError>
         ensures { IfOk result (λ copy. copy ≡ e.now) }
     {
-        let count = e.levels();
-        let last = copy_level(alloc, below(e, count), None)?;
+        let count = e.levels(Way::FirstParts);
+        let last = copy_level(alloc, e.below(Way::FirstParts, count), None)?;
         copy_up(alloc, e, count, last)
     }
 }

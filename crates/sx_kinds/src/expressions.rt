@@ -1,6 +1,5 @@
 // The constructs of expressions and patterns.
-ghost use Rattle.std.specs.Prelude.{◌≡◌, ◌-◌, ◌^◌, min, IfOk};
-ghost use Rattle.sx_kinds.specs.Spines.{levels};
+ghost use Rattle.std.specs.Prelude.{◌≡◌, IfOk};
 ghost use Rattle.sx_kinds.specs.declared.expressions.Expr.TheViews.{out-Expr};
 
 use crate::branches::Branches;
@@ -37,13 +36,21 @@ pub enum ExprForm {
     /// two expressions or more: the parts (XPath 3.1, 3.4.1)
     Comma,
     /// a variable, and what it runs over; the parts are that and what is returned (3.9.1)
-    For { name: u64 },
+    For {
+        name: u64,
+    },
     /// a variable and its value; the parts are that and what is returned (3.9.2)
-    Let { name: u64 },
+    Let {
+        name: u64,
+    },
     /// a variable, and what it runs over; the parts are that and the test (3.11)
-    Some { name: u64 },
+    Some {
+        name: u64,
+    },
     /// a variable, and what it runs over; the parts are that and the test (3.11)
-    Every { name: u64 },
+    Every {
+        name: u64,
+    },
     /// the parts are the test and the two branches (3.10)
     If,
     /// two operands (3.8)
@@ -51,7 +58,10 @@ pub enum ExprForm {
     /// two operands (3.8)
     And,
     /// two operands, by a general or a value comparison (3.7)
-    Compare { op: CmpOp, general: bool },
+    Compare {
+        op: CmpOp,
+        general: bool,
+    },
     /// two operands (3.6)
     Concat,
     /// two operands (3.4.1)
@@ -59,33 +69,56 @@ pub enum ExprForm {
     /// two operands (3.5)
     Arith(ArithOp),
     /// one operand, with a minus or a plus (3.5)
-    Unary { minus: bool },
+    Unary {
+        minus: bool,
+    },
     /// two operands (3.4.2)
     Union,
     /// one operand; optional where an empty one passes (3.12.3)
-    Castable { to: AtomType, optional: bool },
+    Castable {
+        to: AtomType,
+        optional: bool,
+    },
     /// one operand; optional where an empty one passes (3.12.2)
-    Cast { to: AtomType, optional: bool },
+    Cast {
+        to: AtomType,
+        optional: bool,
+    },
     /// two operands (3.14)
     Map,
     /// two operands; `per_item` where a front part gives nodes of separate copies (3.3)
-    Path { per_item: bool },
+    Path {
+        per_item: bool,
+    },
     /// the parts are the predicates (3.3.2)
-    Step { axis: Axis, test: NodeTest },
+    Step {
+        axis: Axis,
+        test: NodeTest,
+    },
     /// the parts are what is filtered and the predicates (3.2)
     Filter,
     /// a literal (3.1.1)
     Literal(Atom),
     /// a reference to a variable, with the type of that (3.1.2)
-    Var { name: u64, ty: Ty },
+    Var {
+        name: u64,
+        ty: Ty,
+    },
     /// nothing (3.1.3)
     Empty,
     /// the context item (3.1.4)
     Dot,
     /// the root of the context item's tree (3.3)
     Root,
-    /// a call; the parts are the arguments, and `ty` is the type of the current item or group where one is called for (3.1.5)
-    Call { function: Function, ty: Ty },
+    /// a call; the parts are the arguments, and `ty` is the type of the current item or group where one is called for (3.1.5).
+    /// `accumulator` is the number of the name of the accumulator that a call of `accumulator-before` or `accumulator-after`
+    /// names in its literal: the prefix in there means what it does on the element of the stylesheet, so that the name is known
+    /// only where the stylesheet is read. `None` until then, and in any other call (XSLT 3.0, 18.2.6 and 18.2.7)
+    Call {
+        function: Function,
+        ty: Ty,
+        accumulator: Option<u64>,
+    },
 }
 
 /// An expression. Its parts stand in the order in which they are written, predicates last.
@@ -215,9 +248,14 @@ impl ExprForm {
             ExprForm::Empty => Ok(ExprForm::Empty),
             ExprForm::Dot => Ok(ExprForm::Dot),
             ExprForm::Root => Ok(ExprForm::Root),
-            ExprForm::Call { function, ty } => Ok(ExprForm::Call {
+            ExprForm::Call {
+                function,
+                ty,
+                accumulator,
+            } => Ok(ExprForm::Call {
                 function: *function,
                 ty: *ty,
+                accumulator: *accumulator,
             }),
         }
     }
@@ -238,19 +276,5 @@ impl Expr {
             parts,
         } = self;
         (construct, deep, form, parts)
-    }
-
-    /// How many first parts of an expression lie below one another: a chain of operators has as many as it is long. No more than
-    /// a `usize` counts.
-    pub fn levels(&self) -> usize
-        ensures { result ≡ min (levels self.now) (2 ^ 64 - 1) }
-    {
-        let mut count: usize = 0;
-        let mut e = self;
-        while let Some(first) = e.parts.as_slice().first() {
-            count = count.saturating_add(1);
-            e = first;
-        }
-        count
     }
 }

@@ -1,5 +1,5 @@
 -- How many constructs an expression has, by the nodes and the tokens of its derivation.
-use Rattle.std.proofs.Common.{◌≡◌, ℕ, suc, ◌+◌, ◌*◌, ◌≤◌, Bool, true, false, List, [], ◌∷◌, ◌++◌, length, map, ap, sym, ◌∙◌, subst, arith, length-append}
+use Rattle.std.proofs.Common.{◌≡◌, ℕ, suc, ◌+◌, ◌*◌, ◌≤◌, Bool, true, false, List, [], ◌∷◌, ◌++◌, length, map, None, ap, sym, ◌∙◌, subst, arith, length-append}
 use Rattle.sx_kinds.specs.declared.constructs.ConstructKind.{ConstructKind}
 use Rattle.sx_kinds.specs.declared.constructs.ConstructKind.TheVariants as kind
 use Rattle.sx_atoms.specs.declared.arithmetic.ArithOp.TheVariants as arith_op
@@ -140,11 +140,11 @@ mutual
   fewer m (parens e) =
       let h = fewer m e in
       fewer_one m (whole m (operands m e)) (nodes e ++ node.Parens ∷ []) (omega (arith, h.1, length_one (nodes e) node.Parens))
-  fewer m (call w p) = fewer_leaf m kind.Call (form.Call (called_function m p) any_type) (node.Call p)
+  fewer m (call w p) = fewer_leaf m kind.Call (form.Call (called_function m p) any_type None) (node.Call p)
   fewer m (called w p e) =
       let h = fewer m e in
       fewer_one m (call_of m p (operands m e)) (nodes e ++ node.Called p ∷ [])
-      (omega (arith, h.0, length_one (nodes e) (node.Called p), made_count m kind.Call (form.Call (called_function m p) any_type) (operands m e)))
+      (omega (arith, h.0, length_one (nodes e) (node.Called p), made_count m kind.Call (form.Call (called_function m p) any_type None) (operands m e)))
   fewer m (filter b e) =
       let h = fewer m b in
       let k = fewer m e in

@@ -192,7 +192,7 @@ filtered m true b e = with_part b e
 filtered m false b e = made m kind.Filter form.Filter (b ∷ e ∷ [])
 
 abbrev pub call_of : Meaning → ℕ → List Expr → Expr
-call_of m place args = made m kind.Call (form.Call (called_function m place) any_type) args
+call_of m place args = made m kind.Call (form.Call (called_function m place) any_type None) args
 
 -- the operands of a derivation, which commas outside parentheses join (XPath 3.1, 3.4.1)
 abbrev mutual

@@ -226,6 +226,7 @@ fn call(words: &Wording, place: u32, arguments: Exprs) -> Expr
         ExprForm::Call {
             function,
             ty: any_type(),
+            accumulator: None,
         },
         arguments,
     )

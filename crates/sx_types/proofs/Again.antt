@@ -28,7 +28,7 @@ use Rattle.sx_types.proofs.Rewriting.{as_it_is, below_in, each_after, focus_afte
 bound_in : (form : ExprForm) (here : Place) (t : Typing) (before : Option Typing) → bound (form_in form here t) before ≡ bound form before
 bound_in (forms.Path per_item) here t before = refl
 bound_in (forms.Var x ty) here t before = refl
-bound_in (forms.Call f ty) here t before = refl
+bound_in (forms.Call f ty accumulator) here t before = refl
 bound_in _ here t before = refl
 
 bound_after : (form : ExprForm) (here : Place) (answer : Result Typing Code) (before : Option Typing) → bound (form_after form here answer) before ≡ bound form before
@@ -63,7 +63,7 @@ typing_by form deep parts ty = record { ty = ty; shape = shape_by form parts; de
 same_in : (form : ExprForm) (here : Place) (t : Typing) (deep other : Deep) (context : Ty) (parts : Parts) →
     SameShape (known_by form deep context parts) (known_by (form_in form here t) other context parts)
 same_in (forms.Var x ty) here t deep other context parts = refl
-same_in (forms.Call f ty) here t deep other context parts = refl
+same_in (forms.Call f ty accumulator) here t deep other context parts = refl
 same_in (forms.Path per_item) here t deep other context parts =
     same_made (type_by (forms.Path per_item) context parts) (typing_by (forms.Path per_item) deep parts) (typing_by (form_in (forms.Path per_item) here t) other parts) (λ ty. refl)
 same_in form here t deep other context parts =
@@ -84,7 +84,7 @@ type_at_again _ here ty = refl
 form_again : (form : ExprForm) (here : Place) (t u : Typing) → t.shape ≡ u.shape → form_in (form_in form here t) here u ≡ form_in form here t
 form_again (forms.Path per_item) here t u e = ap (λ (s : Shape). forms.Path (is_per_item s)) (sym e)
 form_again (forms.Var x ty) here t u e = refl
-form_again (forms.Call f ty) here t u e = ap (forms.Call f) (type_at_again f here ty)
+form_again (forms.Call f ty accumulator) here t u e = ap (λ (u : Ty). forms.Call f u accumulator) (type_at_again f here ty)
 form_again _ here t u e = refl
 
 read_again : (child : Bool) (u : Typing) → deep_in (if child then deeps.Descendant else deeps.Parents) u ≡ (if is_child_step u.shape then deeps.Descendant else deeps.Parents)

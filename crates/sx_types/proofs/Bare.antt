@@ -28,7 +28,7 @@ bare_type_at _ here ty = refl
 bare_in : (form : ExprForm) (here : Place) (t : Typing) → bare_form (form_in form here t) ≡ bare_form form
 bare_in (forms.Path per_item) here t = refl
 bare_in (forms.Var x ty) here t = refl
-bare_in (forms.Call f ty) here t = ap (forms.Call f) (bare_type_at f here ty)
+bare_in (forms.Call f ty accumulator) here t = ap (λ (u : Ty). forms.Call f u accumulator) (bare_type_at f here ty)
 bare_in _ here t = refl
 
 bare_after : (form : ExprForm) (here : Place) (answer : Result Typing Code) → bare_form (form_after form here answer) ≡ bare_form form
@@ -61,7 +61,7 @@ parts_keep form here (Ok ts) (p ∷ ps) =
     ap (λ (e : Expr). e ∷ map bare (settled_parts form here next (map settling_of (map (λ p. p.0) ps)))) (p.1 place) ∙
     ap (λ (es : List Expr). bare p.0 ∷ es) (parts_keep form here next ps)
 
-bare_roll : (x : Expr-F Expr) → bare (roll-Expr x) ≡ roll-Expr (record { construct = x.construct; deep = bare_deep x.deep; form = bare_form x.form; parts = map bare x.parts })
+pub bare_roll : (x : Expr-F Expr) → bare (roll-Expr x) ≡ roll-Expr (record { construct = x.construct; deep = bare_deep x.deep; form = bare_form x.form; parts = map bare x.parts })
 unfolding bare
 bare_roll x = fold-roll-Expr Expr (λ e. roll-Expr (record { construct = e.construct; deep = bare_deep e.deep; form = bare_form e.form; parts = e.parts })) x
 

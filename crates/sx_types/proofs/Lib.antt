@@ -1,7 +1,9 @@
 pub mod Again
+pub mod Alternatives
 pub mod Bare
 pub mod Bindings
 pub mod Firsts
+pub mod Formed
 pub mod Known
 pub mod More
 pub mod Rewriting

@@ -25,7 +25,7 @@ use Rattle.sx_types.proofs.Known.{front, typing_roll}
 focus_in : (form : ExprForm) (here : Place) (t : Typing) (context : Ty) (before : Option Typing) → focus (form_in form here t) context before ≡ focus form context before
 focus_in (forms.Path per_item) here t context before = refl
 focus_in (forms.Var x ty) here t context before = refl
-focus_in (forms.Call f ty) here t context before = refl
+focus_in (forms.Call f ty accumulator) here t context before = refl
 focus_in _ here t context before = refl
 
 pub focus_after : (form : ExprForm) (here : Place) (answer : Result Typing Code) (context : Ty) (before : Option Typing) →

@@ -1,10 +1,9 @@
 -- What settling makes of an expression whose first part is settled.
-use Rattle.std.proofs.Common.{◌≡◌, ℕ, ◌-◌, ◌≤◌, List, [], ◌∷◌, ◌++◌, length, drop, map, None, Result, Ok, ap, refl, sym, ◌∙◌, subst, arith}
+use Rattle.std.proofs.Common.{◌≡◌, ◌<◌, List, [], ◌∷◌, ◌++◌, length, drop, map, None, Result, Ok, ap, refl, sym, ◌∙◌, subst, arith}
 use Rattle.sx_atoms.specs.declared.error_codes.Code.{Code}
 use Rattle.sx_kinds.specs.Settled.{Place, and_one, bound, inner, settled, settled_parts, settling_of}
-use Rattle.sx_kinds.specs.Types.{below, each, focus, parts_of, typing}
+use Rattle.sx_kinds.specs.Types.{each, focus, parts_of, typing}
 use Rattle.sx_kinds.specs.declared.expressions.Expr.{Expr}
-use Rattle.sx_kinds.specs.declared.expressions.Expr.TheOpen.{Expr-F}
 use Rattle.sx_kinds.specs.declared.expressions.Expr.TheViews.{out-Expr}
 use Rattle.sx_kinds.specs.declared.expressions.ExprForm.{ExprForm}
 use Rattle.sx_kinds.specs.declared.expressions.ExprForm.TheVariants as forms
@@ -12,10 +11,11 @@ use Rattle.sx_kinds.specs.declared.types.Parts.{Parts}
 use Rattle.sx_kinds.specs.declared.types.Ty.{Ty}
 use Rattle.sx_kinds.specs.declared.types.Typing.{Typing}
 use Rattle.sx_kinds.specs.declared.types.VarType.{VarType}
-use Rattle.sx_kinds.specs.Spines.{above_first, levels}
-use Rattle.sx_types.specs.Descent.{Standing, down, first_part, one_down, standing}
-use Rattle.sx_types.specs.Settling.{IsBegun, IsSettledAt, inside, next_part, settled_at, together}
-use Rattle.sx_types.proofs.Firsts.{down_rest, levels_out, standing_is}
+use Rattle.sx_kinds.specs.Ways.{levels, next}
+use Rattle.sx_kinds.specs.declared.walks.Way.TheVariants.{OneFocus}
+use Rattle.sx_kinds.proofs.Ways.{down_one}
+use Rattle.sx_types.specs.Settling.{IsBegun, IsSettledAt, inside, next_part, together}
+use Rattle.sx_types.proofs.Firsts.{context_same}
 use Rattle.sx_types.proofs.Rewriting.{known_more, parts_more}
 
 -- ---- the place of the first part
@@ -46,52 +46,49 @@ begun_none e outer parts known none k = (
   ap (λ (ps : List Expr). ps ++ settled_parts (out-Expr e).form (inside e outer) (Ok []) (map settling_of (drop (length ps) (out-Expr e).parts))) none,
 )
 
-one_by : (e : Expr) (outer : Place) (x : Expr-F Expr) (items : List Expr) → 1 ≤ above_first (map levels items) →
-    (let here : Place = record outer { context = below x.deep outer.context } in
-    let at = first_part (standing e outer.context) x items in
-    let next = settled_at outer at in
-    (each x.form here.context [] (map typing (next ∷ [])) ≡ and_one [] (typing next at.context)) ×
-    ((next ∷ []) ++ settled_parts x.form here (and_one [] (typing next at.context)) (map settling_of (drop 1 items)) ≡ settled_parts x.form here (Ok []) (map settling_of items)))
-one_by e outer x [] h = absurd (omega arith)
-one_by e outer x (p ∷ ps) h =
-    let here : Place = record outer { context = below x.deep outer.context } in
-    let next = settled p (record here { context = focus x.form here.context None }) in
-    let place = first_place x.form here in
-    let is : next ≡ next_part x.form here (Ok []) p = ap (settled p) (sym place) in
+one_by : (form : ExprForm) (here outer : Place) (p : Expr) (ps : List Expr) → record here { context = focus form here.context None } ≡ outer →
+    (each form here.context [] (map typing (settled p outer ∷ [])) ≡ and_one [] (typing (settled p outer) outer.context)) ×
+    ((settled p outer ∷ []) ++ settled_parts form here (and_one [] (typing (settled p outer) outer.context)) (map settling_of ps) ≡
+    settled_parts form here (Ok []) (map settling_of (p ∷ ps)))
+one_by form here outer p ps same =
+    let next = settled p outer in
+    let place = first_place form here ∙ same in
+    let is : next ≡ next_part form here (Ok []) p = ap (settled p) (sym place) in
     let known = ap (λ (w : Place). and_one [] (typing (settled p w) w.context)) place in (
-      known_more x.form here (Ok []) [] p next refl is ∙ known,
-      ap (λ (r : Result (List Typing) Code). (next ∷ []) ++ settled_parts x.form here r (map settling_of ps)) (sym known) ∙
-          parts_more x.form here (Ok []) [] (p ∷ ps) 0 p next (omega arith) refl is,
+      known_more form here (Ok []) [] p next refl is ∙ known,
+      ap (λ (r : Result (List Typing) Code). (next ∷ []) ++ settled_parts form here r (map settling_of ps)) (sym known) ∙
+          parts_more form here (Ok []) [] (p ∷ ps) 0 p next (omega arith) refl is,
     )
 
-pub begun_one : (e : Expr) (outer : Place) (parts : List Expr) (known : Result Typing Code) (first : Result Parts Code) → 1 ≤ levels e →
-    IsSettledAt outer (one_down (standing e outer.context)) parts known → first ≡ together (and_one [] known) → IsBegun e outer parts first
+pub begun_one : (e : Expr) (outer : Place) (parts : List Expr) (known : Result Typing Code) (first : Result Parts Code) → 0 < levels OneFocus e →
+    IsSettledAt outer (next OneFocus e) parts known → first ≡ together (and_one [] known) → IsBegun e outer parts first
 begun_one e outer parts known first h is f =
-    let at = one_down (standing e outer.context) in
-    let next = settled_at outer at in
+    let form = (out-Expr e).form in
     let items = (out-Expr e).parts in
-    let by = one_by e outer (out-Expr e) items (subst (λ (n : ℕ). 1 ≤ n) (levels_out e) h) in (
+    let one = (down_one OneFocus e h).0 in
+    let made = settled (next OneFocus e) outer in
+    let same = ap (λ (c : Ty). record outer { context = c }) (context_same e outer.context h) in
+    let by = one_by form (inside e outer) outer (next OneFocus e) one.0 same in (
       and_one [] known,
       f,
-      ap (λ (ps : List Expr). each (out-Expr e).form (inside e outer).context [] (map typing ps)) is.0 ∙
+      ap (λ (ps : List Expr). each form (inside e outer).context [] (map typing ps)) is.0 ∙
           by.0 ∙
           ap (λ (r : Result Typing Code). and_one [] r) (sym is.1),
-      ap (λ (ps : List Expr). ps ++ settled_parts (out-Expr e).form (inside e outer) (and_one [] known) (map settling_of (drop (length ps) items))) is.0 ∙
-          ap (λ (r : Result Typing Code). (next ∷ []) ++ settled_parts (out-Expr e).form (inside e outer) (and_one [] r) (map settling_of (drop 1 items))) is.1 ∙
-          by.1,
+      ap (λ (ps : List Expr). ps ++ settled_parts form (inside e outer) (and_one [] known) (map settling_of (drop (length ps) items))) is.0 ∙
+          ap (λ (r : Result Typing Code). (made ∷ []) ++ settled_parts form (inside e outer) (and_one [] r) (map settling_of (drop 1 items))) is.1 ∙
+          ap (λ (qs : List Expr). (made ∷ []) ++ settled_parts form (inside e outer) (and_one [] (typing made outer.context)) (map settling_of (drop 1 qs))) one.1 ∙
+          by.1 ∙
+          ap (λ (qs : List Expr). settled_parts form (inside e outer) (Ok []) (map settling_of qs)) (sym one.1),
     )
 
 -- ---- what is settled below
 
-module _ (n : ℕ) (at : Standing) (e : Expr) (context : Ty) (same : e ≡ (down n at).expr) (here : context ≡ (down n at).context)
-    (outer : Place) (parts : List Expr) (known : Result Typing Code) where
-  -- what is settled further below lies below that
-  pub settled_rest : (m : ℕ) → n ≤ m → IsSettledAt outer (down m at) parts known → IsSettledAt outer (down (m - n) (standing e context)) parts known
-  settled_rest m h is = subst (λ (s : Standing). IsSettledAt outer s parts known) (sym (down_rest n at e context same here m h)) is
+-- an expression that is the same is settled as well
+pub settled_same : (outer : Place) (e other : Expr) (parts : List Expr) (known : Result Typing Code) → e ≡ other → IsSettledAt outer e parts known → IsSettledAt outer other parts known
+settled_same outer e other parts known same is = subst (λ (x : Expr). IsSettledAt outer x parts known) same is
 
-  -- what has been put into an empty list there is settled
-  pub settled_there : (old : List Expr) → old ≡ [] → parts ≡ old ++ settled_at outer (standing e context) ∷ [] →
-      known ≡ typing (settled_at outer (standing e context)) context → IsSettledAt outer (down n at) parts known
-  settled_there old none p k =
-      subst (λ (s : Standing). IsSettledAt outer s parts known) (standing_is (down n at) e context same here)
-      (p ∙ ap (λ (es : List Expr). es ++ settled_at outer (standing e context) ∷ []) none, k)
+-- what has been put into an empty list there is settled
+pub settled_there : (outer : Place) (e other : Expr) (old parts : List Expr) (known : Result Typing Code) → e ≡ other → old ≡ [] →
+    parts ≡ old ++ settled e outer ∷ [] → known ≡ typing (settled e outer) outer.context → IsSettledAt outer other parts known
+settled_there outer e other old parts known same none p k =
+    settled_same outer e other parts known same (p ∙ ap (λ (es : List Expr). es ++ settled e outer ∷ []) none, k)

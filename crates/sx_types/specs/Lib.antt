@@ -1,4 +1,4 @@
 pub mod Added
-pub mod Descent
+pub mod Firsts
 pub mod Places
 pub mod Settling

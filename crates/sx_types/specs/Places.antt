@@ -12,7 +12,12 @@ bindings (Bound' var p outer) = bindings outer ++ var ∷ []
 
 -- a place
 abbrev pub place_of : Place → settled.Place
-place_of place = record { context = place.context; current = place.current; group = place.group; vars = bindings place.scope.now }
+place_of place = record {
+  context = place.context;
+  current = place.current;
+  group = place.group;
+  vars = bindings place.scope.now;
+}
 
 -- a variable that may be bound
 abbrev pub one_bound : Option VarType → List VarType

@@ -2,7 +2,7 @@
 ghost use Rattle.std.specs.Prelude.{◌≡◌};
 ghost use Rattle.sx_kinds.specs.Types as spec;
 
-use crate::kinds::{as_number, atomised, many, one, summed};
+use crate::kinds::{as_number, atomised, extreme, many, one, summed};
 use sx_atoms::{SeqFn, TextFn};
 use sx_kinds::{Function, Origin, Shape, Start, Ty, TyKind, Typing};
 
@@ -57,7 +57,7 @@ fn seq_call(f: SeqFn, ty: &Ty, x: &Ty) -> Ty
         SeqFn::Empty | SeqFn::Exists | SeqFn::Boolean | SeqFn::Not => one(TyKind::Boolean),
         SeqFn::Sum => one(summed(x.kind)),
         SeqFn::Avg => one(TyKind::Decimal),
-        SeqFn::Min | SeqFn::Max => one(as_number(x.kind)),
+        SeqFn::Min | SeqFn::Max => one(extreme(x.kind)),
         SeqFn::Data | SeqFn::DistinctValues => many(atomised(x.kind)),
         SeqFn::Abs | SeqFn::Floor | SeqFn::Ceiling | SeqFn::Round => one(as_number(x.kind)),
         SeqFn::True | SeqFn::False => one(TyKind::Boolean),

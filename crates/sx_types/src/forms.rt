@@ -61,7 +61,7 @@ fn type_by(form: &ExprForm, context: &Ty, parts: &Parts) -> Result<Ty, Code>
             at_most_one: true,
             origin: context.origin,
         }),
-        ExprForm::Call { function, ty } => {
+        ExprForm::Call { function, ty, .. } => {
             Ok(called(*function, ty, &argument(context, parts.first)))
         }
     }

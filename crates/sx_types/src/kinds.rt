@@ -2,8 +2,8 @@
 ghost use Rattle.std.specs.Prelude.{◌≡◌};
 ghost use Rattle.sx_kinds.specs.Types as spec;
 
-use sx_atoms::{Atom, AtomType};
-use sx_kinds::{ArithOp, Origin, Ty, TyKind};
+use sx_atoms::{ArithOp, Atom, AtomType};
+use sx_kinds::{Origin, Ty, TyKind};
 use sx_tree::{Axis, NodeTest};
 
 // The number of a kind, from those of nodes to those of atoms.
@@ -28,8 +28,8 @@ fn rank(kind: TyKind) -> u8
     }
 }
 
-// Whether the items of a kind are nodes.
-fn is_node(kind: TyKind) -> bool
+/// Whether the items of a kind are nodes.
+pub fn is_node(kind: TyKind) -> bool
     ensures { result ≡ spec.is_node kind }
 {
     rank(kind) <= 5
@@ -104,6 +104,14 @@ pub fn as_number(kind: TyKind) -> TyKind
         TyKind::Nothing => TyKind::Nothing,
         _ => TyKind::Decimal,
     }
+}
+
+/// The kind of the least or the greatest of some items (XPath functions and operators 3.1, 14.4.3 and 14.4.4): that of their
+/// atoms, of which the untyped ones are read as decimals.
+pub fn extreme(kind: TyKind) -> TyKind
+    ensures { result ≡ spec.extreme kind }
+{
+    as_number(atomised(kind))
 }
 
 /// The kind of a number that is this one with a sign (XPath 3.1, 3.5).

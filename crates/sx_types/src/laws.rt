@@ -1,11 +1,15 @@
 // What a caller relies on, said of the definitions.
-ghost use Rattle.std.specs.Prelude.{◌≡◌};
+ghost use Rattle.std.specs.Prelude.{◌≡◌, ℕ, Bool};
+ghost use Rattle.sx_kinds.specs.Formed.{formed};
+ghost use Rattle.sx_kinds.specs.Patterns.{IsSettledPattern, settled_pattern};
 ghost use Rattle.sx_kinds.specs.Settled.{Place, bare, settled};
 ghost use Rattle.sx_kinds.specs.Types.{is_deep, typing};
 ghost use Rattle.sx_kinds.specs.declared.expressions.Deep.{Deep};
 ghost use Rattle.sx_kinds.specs.declared.expressions.Expr.{Expr};
 ghost use Rattle.sx_kinds.specs.declared.expressions.Expr.TheOpen.{Expr-F};
 ghost use Rattle.sx_kinds.specs.declared.expressions.Expr.TheViews.{roll-Expr};
+ghost use Rattle.sx_kinds.specs.declared.expressions.Function.{Function};
+ghost use Rattle.sx_kinds.specs.declared.expressions.Pattern.{Pattern};
 ghost use Rattle.sx_kinds.specs.declared.types.Ty.{Ty};
 
 /// What is settled in a place stays as it is when it is settled there again.
@@ -18,8 +22,20 @@ pub fn settled_keeps()
     ensures { (e : Expr) (here : Place) → bare (settled e here) ≡ bare e }
 {}
 
+/// Settling takes no part away and puts none in.
+pub fn settled_formed()
+    ensures { (takes : Function → ℕ → Bool) (e : Expr) (here : Place)
+        → formed takes (settled e here) ≡ formed takes e }
+{}
+
+/// A pattern that is settled in a place stays as it is when it is settled there again.
+pub fn pattern_again()
+    ensures { (p : Pattern) (here : Place) → IsSettledPattern (settled_pattern p here) here }
+{}
+
 /// The type of an expression behind `//` does not depend on how that is read.
 pub fn readings()
     ensures { (e : Expr-F Expr) (a b : Deep) (context : Ty) → is_deep a ≡ is_deep b
-        → typing (roll-Expr (record e { deep = a })) context ≡ typing (roll-Expr (record e { deep = b })) context }
+        → typing (roll-Expr (record e { deep = a })) context
+        ≡ typing (roll-Expr (record e { deep = b })) context }
 {}

@@ -234,7 +234,8 @@ fn double_origin(same: bool, a: Origin, b: Origin) -> Result<Origin, Code>
 
 // The origin of a union.
 fn union_origin(a: &Typing, b: &Typing) -> Result<Origin, Code>
-    ensures { result ≡ spec.union_origin (spec.is_same_start a.now.start b.now.start) (spec.origins (a.now ∷ b.now ∷ [])) }
+    ensures { result ≡ spec.union_origin (spec.is_same_start a.now.start b.now.start)
+        (spec.origins (a.now ∷ b.now ∷ [])) }
 {
     let left = may_be_node(a.ty.kind);
     let right = may_be_node(b.ty.kind);

@@ -106,9 +106,14 @@ pub fn form_in(
             name: *name,
             ty: type_in(place.scope, *name),
         }),
-        ExprForm::Call { function, ty } => Ok(ExprForm::Call {
+        ExprForm::Call {
+            function,
+            ty,
+            accumulator,
+        } => Ok(ExprForm::Call {
             function: *function,
             ty: type_at(*function, place, *ty),
+            accumulator: *accumulator,
         }),
         _ => ExprForm::copy(alloc, form),
     }

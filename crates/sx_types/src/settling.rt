@@ -1,24 +1,22 @@
 // Settling expressions.
-ghost use Rattle.std.specs.Prelude.{◌≡◌, ◌<◌, ◌≤◌, ◌∷◌, ◌++◌, [], Ok, List, Result, IfOk, OnErr, OnOk, drop, map};
+ghost use Rattle.std.specs.Prelude.{◌≡◌, ◌<◌, ◌≤◌, ◌∷◌, ◌++◌, [], Ok, List, Result, IfOk, OnErr, OnOk, drop};
 ghost use Rattle.sx_atoms.specs.declared.error_codes.Code.{Code as AnyCode};
 ghost use Rattle.sx_kinds.specs.Settled as spec;
-ghost use Rattle.sx_kinds.specs.Types.{below, each, focus as focus_of, type_of, typing};
-ghost use Rattle.sx_kinds.specs.declared.expressions.Expr.TheViews.{out-Expr};
+ghost use Rattle.sx_kinds.specs.Types.{focus as focus_of, type_of};
 ghost use Rattle.sx_kinds.specs.declared.types.Ty.{Ty as AnyTy};
 ghost use Rattle.sx_kinds.specs.declared.types.Typing.{Typing as AnyTyping};
-ghost use Rattle.sx_kinds.specs.Spines.{levels};
-ghost use Rattle.sx_types.specs.Descent.{down, standing};
+ghost use Rattle.sx_kinds.specs.Ways.{front, levels};
+ghost use Rattle.sx_kinds.specs.declared.walks.Way.TheVariants.{OneFocus};
 ghost use Rattle.sx_types.specs.Places.{place_of};
-ghost use Rattle.sx_types.specs.Settling.{IsBegun, IsSettledAt, known_after, known_from, next_part, together};
+ghost use Rattle.sx_types.specs.Settling.{Adds, AreKnown, IsBegun, IsSettledAt, finished_in, known_after, known_from, next_part, together};
 
-use crate::descent::fall;
 use crate::forms::{focus, known_by};
 use crate::parts::{and_one, none};
 use crate::paths;
 use crate::places::{Place, Scope, bound, deep_in, form_in};
 use std::alloc::{AllocError, Global};
 use sx_atoms::Code;
-use sx_kinds::{Deep, Expr, ExprForm, Exprs, Parts, Ty, Typing, VarTypes};
+use sx_kinds::{Deep, Expr, ExprForm, Exprs, Parts, Ty, Typing, VarTypes, Way};
 
 // What is known of an expression by its form and what is known of its parts.
 fn answered(
@@ -71,10 +69,10 @@ fn finish(
     known: &Result<Parts, Code>,
     done: &mut Exprs,
 ) -> Result<Result<Typing, Code>, AllocError>
-    ensures { (before : Result (List AnyTyping) AnyCode) (outer : AnyTy) → known.now ≡ together before
-        → each (out-Expr e.now).form here.now.context [] (map typing parts) ≡ before → here.now.context ≡ below (out-Expr e.now).deep outer
-        → IfOk result (λ answer. let made = spec.finished (out-Expr e.now) (place_of here.now) parts (typing (spec.with_parts (out-Expr e.now) parts) outer) in
-        (done.new ≡ done.old ++ made ∷ []) × (answer ≡ typing made outer)) }
+    ensures { (before : Result (List AnyTyping) AnyCode) (outer : AnyTy)
+        → AreKnown e.now parts here.now.context outer known.now before
+        → IfOk result (λ answer.
+        Adds done.old done.new (finished_in e.now (place_of here.now) parts outer) outer answer) }
 {
     let context = &here.context;
     let answer = answered(&e.form, e.deep, context, known);
@@ -102,7 +100,8 @@ fn keep(alloc: Global, e: &Expr, done: &mut Exprs) -> Result<(), AllocError>
 // What is known of parts and of one more.
 #[inline(never)]
 fn known_more(known: &Result<Parts, Code>, answer: &Result<Typing, Code>) -> Result<Parts, Code>
-    ensures { (ts : List AnyTyping) → known.now ≡ together (Ok ts) → result ≡ together (spec.and_one ts answer.now) }
+    ensures { (ts : List AnyTyping) → known.now ≡ together (Ok ts)
+        → result ≡ together (spec.and_one ts answer.now) }
 {
     match (known, answer) {
         (Ok(parts), Ok(t)) => Ok(and_one(parts, t)),
@@ -129,8 +128,9 @@ fn settle_inside(
     first: Option<Typing>,
     done: &mut Exprs,
 ) -> Result<Result<Typing, Code>, AllocError>
-    ensures { IfOk result (λ answer. let made = spec.settled part.now (spec.inner form.now (place_of here.now) first) in
-        (done.new ≡ done.old ++ made ∷ []) × (answer ≡ typing made (focus_of form.now here.now.context first))) }
+    ensures { IfOk result (λ answer.
+        let made = spec.settled part.now (spec.inner form.now (place_of here.now) first) in
+        Adds done.old done.new made (focus_of form.now here.now.context first) answer) }
 {
     let context = focus(form, &here.context, first);
     match bound(form, first) {
@@ -167,7 +167,8 @@ fn settle_part(
     done: &mut Exprs,
 ) -> Result<Result<Parts, Code>, AllocError>
     ensures { (before : Result (List AnyTyping) AnyCode) → known.now ≡ together before
-        → IfOk result (λ after. (done.new ≡ done.old ++ next_part form.now (place_of here.now) before part.now ∷ [])
+        → IfOk result (λ after.
+        (done.new ≡ done.old ++ next_part form.now (place_of here.now) before part.now ∷ [])
         × (after ≡ together (known_after form.now (place_of here.now) before part.now))) }
 {
     match known {
@@ -194,8 +195,8 @@ fn settle_level(
     done: &mut Exprs,
 ) -> Result<Result<Typing, Code>, AllocError>
     requires { IsBegun e.now (place_of place.now) parts known }
-    ensures { IfOk result (λ answer. let made = spec.settled e.now (place_of place.now) in
-        (done.new ≡ done.old ++ made ∷ []) × (answer ≡ typing made place.now.context)) }
+    ensures { IfOk result (λ answer.
+        Adds done.old done.new (spec.settled e.now (place_of place.now)) place.now.context answer) }
 {
     let here = Place {
         context: paths::below(e.deep, &place.context),
@@ -209,8 +210,8 @@ fn settle_level(
     finish(alloc, e, &here, parts, &known, done)
 }
 
-// Puts an expression, settled in a place, behind others, where what lies so many first parts below is settled and this is
-// known of it. The answer is what is known of the whole. Halving keeps the calls within one another few.
+// Puts an expression, settled in a place, behind others, where what lies so many first parts below in its focus is settled and
+// this is known of it. The answer is what is known of the whole. Halving keeps the calls within one another few.
 #[cycle(settling)]
 fn settle_rise(
     alloc: Global,
@@ -222,55 +223,43 @@ fn settle_rise(
     done: &mut Exprs,
 ) -> Result<Result<Typing, Code>, AllocError>
     requires above { 0 < n }
-    requires within { n ≤ levels e.now }
-    requires below { IsSettledAt (place_of place.now) (down n (standing e.now place.now.context)) parts known }
-    ensures { IfOk result (λ answer. let made = spec.settled e.now (place_of place.now) in
-        (done.new ≡ done.old ++ made ∷ []) × (answer ≡ typing made place.now.context)) }
+    requires within { n ≤ levels OneFocus e.now }
+    requires below { IsSettledAt (place_of place.now) (front OneFocus n e.now) parts known }
+    ensures { IfOk result (λ answer.
+        Adds done.old done.new (spec.settled e.now (place_of place.now)) place.now.context answer) }
 {
     if n == 1 {
         let first = known_more(&Ok(none()), &known);
         return settle_level(alloc, e, place, parts, first, done);
     }
     let half = n / 2;
-    let (middle, context) = fall(e, &place.context, half);
-    let here = Place {
-        context,
-        current: place.current,
-        group: place.group,
-        scope: place.scope,
-    };
+    let middle = e.below(Way::OneFocus, half);
     let mut halfway = Exprs::new(alloc);
-    let answer = settle_rise(alloc, middle, &here, n - half, parts, known, &mut halfway)?;
+    let answer = settle_rise(alloc, middle, place, n - half, parts, known, &mut halfway)?;
     settle_rise(alloc, e, place, half, halfway, answer, done)
 }
 
-// Puts an expression, settled in a place, behind others. The answer is what is known of it then.
+/// Puts an expression, settled in a place, behind others. The answer is what is known of it then.
 #[cycle(settling)]
-fn settle_in(
+pub fn settle_in(
     alloc: Global,
     e: &Expr,
     place: &Place<'_>,
     done: &mut Exprs,
 ) -> Result<Result<Typing, Code>, AllocError>
-    ensures { IfOk result (λ answer. let made = spec.settled e.now (place_of place.now) in
-        (done.new ≡ done.old ++ made ∷ []) × (answer ≡ typing made place.now.context)) }
+    ensures { IfOk result (λ answer.
+        Adds done.old done.new (spec.settled e.now (place_of place.now)) place.now.context answer) }
 {
-    let n = e.levels();
+    let n = e.levels(Way::OneFocus);
     if n == 0 {
         return settle_level(alloc, e, place, Exprs::new(alloc), Ok(none()), done);
     }
-    let (bottom, context) = fall(e, &place.context, n);
-    let here = Place {
-        context,
-        current: place.current,
-        group: place.group,
-        scope: place.scope,
-    };
+    let bottom = e.below(Way::OneFocus, n);
     let mut parts = Exprs::new(alloc);
     let answer = settle_level(
         alloc,
         bottom,
-        &here,
+        place,
         Exprs::new(alloc),
         Ok(none()),
         &mut parts,
@@ -290,7 +279,8 @@ pub fn settle(
     group: &Ty,
     vars: &VarTypes,
 ) -> Result<Result<(), Code>, AllocError>
-    ensures settled { IfOk result (λ answer. e.new ≡ spec.settled e.old (spec.place context.now group.now vars.now)) }
+    ensures settled { IfOk result (λ answer.
+        e.new ≡ spec.settled e.old (spec.place context.now group.now vars.now)) }
     ensures stays { IfOk result (λ answer. spec.IsSettled e.new (spec.place context.now group.now vars.now)) }
     ensures answer { IfOk result (λ answer. answer ≡ spec.without_type (type_of e.new context.now)) }
     ensures unchanged { OnErr result (e.new ≡ e.old) }

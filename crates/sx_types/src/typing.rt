@@ -1,14 +1,15 @@
 // The types of expressions.
-ghost use Rattle.std.specs.Prelude.{◌≡◌, Ok, drop, length};
+ghost use Rattle.std.specs.Prelude.{◌≡◌, ◌≤◌, Ok, drop, length};
 ghost use Rattle.sx_kinds.specs.Types as spec;
-ghost use Rattle.sx_types.specs.Descent.{IsKnown, down, known_front, standing};
+ghost use Rattle.sx_kinds.specs.Ways.{front, levels};
+ghost use Rattle.sx_kinds.specs.declared.walks.Way.TheVariants.{OneFocus};
+ghost use Rattle.sx_types.specs.Firsts.{IsKnown, known_front};
 
-use crate::descent::fall;
 use crate::forms::{focus, known_by};
 use crate::parts::{and_one, none};
 use crate::paths::below;
 use sx_atoms::Code;
-use sx_kinds::{Expr, Parts, Ty, Typing};
+use sx_kinds::{Expr, Parts, Ty, Typing, Way};
 
 // What is known of parts whose first one may be known, and the parts behind those.
 #[inline(never)]
@@ -25,23 +26,24 @@ fn begun<'a>(parts: &'a [Expr], first: Option<Typing>) -> (Parts, &'a [Expr])
 // What is known of an expression in a context, where this may be known of its first part.
 #[cycle(typing)]
 fn level(e: &Expr, outer: &Ty, first: Option<Typing>) -> Result<Typing, Code>
-    ensures { IsKnown (standing e.now outer.now) first → result ≡ spec.typing e.now outer.now }
+    ensures { IsKnown e.now outer.now first → result ≡ spec.typing e.now outer.now }
 {
     let context = below(e.deep, outer);
     let (mut parts, behind) = begun(e.parts.as_slice(), first);
     for part in behind {
         let inner = focus(&e.form, &context, parts.first);
-        let t = typing(part, &inner)?;
+        let t = typing_of(part, &inner)?;
         parts = and_one(&parts, &t);
     }
     known_by(&e.form, e.deep, &context, &parts)
 }
 
-// What is known of an expression in a context, where this is known of what lies so many first parts below. Halving keeps the
-// calls within one another few.
+// What is known of an expression in a context, where this is known of what lies so many first parts below in its focus.
+// Halving keeps the calls within one another few.
 #[cycle(typing)]
 fn rise(e: &Expr, outer: &Ty, n: usize, answer: Typing) -> Result<Typing, Code>
-    ensures { spec.typing (down n (standing e.now outer.now)).expr (down n (standing e.now outer.now)).context ≡ Ok answer
+    requires { n ≤ levels OneFocus e.now }
+    ensures { spec.typing (front OneFocus n e.now) outer.now ≡ Ok answer
         → result ≡ spec.typing e.now outer.now }
 {
     if n == 0 {
@@ -51,28 +53,29 @@ fn rise(e: &Expr, outer: &Ty, n: usize, answer: Typing) -> Result<Typing, Code>
         return level(e, outer, Some(answer));
     }
     let half = n / 2;
-    let (middle, context) = fall(e, outer, half);
-    let known = rise(middle, &context, n - half, answer)?;
+    let middle = e.below(Way::OneFocus, half);
+    let known = rise(middle, outer, n - half, answer)?;
     rise(e, outer, half, known)
 }
 
-// What is known of an expression in a context.
+/// What is known of an expression in a context, its static type among it, or its first code in written order, that of an inner
+/// construct before that of an outer one: XPTY0004 for atoms on the left of `/`, SXST0003 for steps or a union where the nodes
+/// may be of several copied trees. Of a part it can be asked in the context that `focus` gives for it, from that of the whole
+/// behind `//`, which `below` gives. It takes no memory.
 #[cycle(typing)]
-fn typing(e: &Expr, outer: &Ty) -> Result<Typing, Code>
-    ensures { result ≡ spec.typing e.now outer.now }
+pub fn typing_of(e: &Expr, context: &Ty) -> Result<Typing, Code>
+    ensures { result ≡ spec.typing e.now context.now }
 {
-    let n = e.levels();
-    let (bottom, context) = fall(e, outer, n);
-    let answer = level(bottom, &context, None)?;
-    rise(e, outer, n, answer)
+    let n = e.levels(Way::OneFocus);
+    let bottom = e.below(Way::OneFocus, n);
+    let answer = level(bottom, context, None)?;
+    rise(e, context, n, answer)
 }
 
-/// The static type of an expression in a context, or its first code in written order, that of an inner construct before that
-/// of an outer one: XPTY0004 for atoms on the left of `/`, SXST0003 for steps or a union where the nodes may be of several
-/// copied trees. It takes no memory.
+/// The static type of an expression in a context, or its first code, as `typing_of` has it.
 pub fn type_of(e: &Expr, context: &Ty) -> Result<Ty, Code>
     ensures { result ≡ spec.type_of e.now context.now }
 {
-    let t = typing(e, context)?;
+    let t = typing_of(e, context)?;
     Ok(t.ty)
 }

@@ -1,16 +1,16 @@
-use Rattle.std.proofs.Common.{◌≡◌, ◌+◌, ◌/◌, ◌≤◌, List, [], ◌∷◌, ◌++◌, IfOk, length, drop, map, Ok, ap, refl, sym, subst, ◌∙◌, ℕ, arith}
+use Rattle.std.proofs.Common.{◌≡◌, ◌+◌, ◌-◌, ◌/◌, ◌<◌, List, [], ◌∷◌, ◌++◌, IfOk, length, drop, map, Ok, ap, refl, sym, subst, ◌∙◌, ℕ, arith}
 use Rattle.sx_kinds.specs.Settled.{Place, settled_parts, settling_of}
 use Rattle.sx_kinds.specs.Types.{each, typing}
 use Rattle.sx_kinds.specs.declared.expressions.Expr.{Expr}
 use Rattle.sx_kinds.specs.declared.expressions.Expr.TheViews.{out-Expr}
 use Rattle.sx_kinds.specs.declared.types.Ty.{Ty}
-use Rattle.sx_kinds.specs.Spines.{levels}
-use Rattle.sx_types.specs.Descent.{down, standing}
+use Rattle.sx_kinds.specs.Ways.{front, levels}
+use Rattle.sx_kinds.specs.declared.walks.Way.TheVariants.{OneFocus}
 use Rattle.sx_types.specs.Places.{bindings, place_of}
 use Rattle.sx_types.specs.Settling.{IsSettledAt, known_after, next_part}
-use Rattle.sx_types.proofs.Firsts.{below_no_larger, levels_below, part_smaller}
+use Rattle.sx_types.proofs.Firsts.{front_rest, levels_below, part_smaller}
 use Rattle.sx_types.proofs.Rewriting.{known_more, parts_end, parts_more, settled_by}
-use Rattle.sx_types.proofs.Rising.{begun_none, begun_one, settled_rest, settled_there}
+use Rattle.sx_types.proofs.Rising.{begun_none, begun_one, settled_same, settled_there}
 use Rattle.sx_types.proofs.settling.+settling.Goals as goal
 
 pub settle_level-loop-part-init : goal.settle_level-loop-part-init
@@ -65,44 +65,43 @@ settle_level-returns t c =
     let stands = ap (λ (n : Ty). record { context = n; current = place.current; group = place.group; vars = bindings place.scope.now }) c.below.ensures in
     let whole = settled_by e (place_of place) here c.loop-part.parts stands all in
     subst (λ (x : Expr). IfOk c.finish.result (λ answer. (c.finish.new.done ≡ c.args.done.now ++ x ∷ []) × (answer ≡ typing x place.context))) (sym whole)
-    (c.finish.ensures inv.0 place.context inv.1 inv.2 c.below.ensures)
+    (c.finish.ensures inv.0 place.context (inv.1, inv.2, c.below.ensures))
 
 pub settle_rise-settle_level-requires : goal.settle_rise-settle_level-requires
 settle_rise-settle_level-requires t c =
-    let at = standing c.args.e.now c.args.place.now.context in
     let one : c.args.n ≡ 1 = omega arith in
-    let is = subst (λ (n : ℕ). IsSettledAt (place_of c.args.place.now) (down n at) c.args.parts c.args.known) one c.requires.below in
-    let within : 1 ≤ levels c.args.e.now = omega (arith, c.requires.within) in
+    let is = subst (λ (n : ℕ). IsSettledAt (place_of c.args.place.now) (front OneFocus n c.args.e.now) c.args.parts c.args.known) one c.requires.below in
+    let within : 0 < levels OneFocus c.args.e.now = omega (arith, c.requires.within) in
     (omega arith, begun_one c.args.e.now (place_of c.args.place.now) c.args.parts c.args.known c.known_more-first.result within is (c.known_more-first.ensures [] (ap (λ ps. Ok ps) c.none.ensures)))
 
 pub settle_rise-settle_rise-requires : goal.settle_rise-settle_rise-requires
 settle_rise-settle_rise-requires t c =
-    let at = standing c.args.e.now c.args.place.now.context in
     let half = c.args.n / 2 in
-    let h = below_no_larger half at c.fall.result.0.now c.fall.ensures.expr in
-    let l = levels_below half at c.fall.result.0.now c.fall.ensures.expr in (
-      omega (arith, h),
+    let middle = c.below-middle.result.now in
+    let left = levels_below half c.args.e.now middle (omega (arith, c.requires.within)) c.below-middle.ensures.is in
+    let rest = front_rest half c.args.n c.args.e.now middle (omega arith) c.below-middle.ensures.is in (
+      omega (arith, c.below-middle.ensures.smaller),
       (
         omega arith,
         (
-          omega (arith, l, c.requires.within),
-          settled_rest half at c.fall.result.0.now c.fall.result.1 c.fall.ensures.expr c.fall.ensures.context
-              (place_of c.args.place.now) c.args.parts c.args.known c.args.n (omega arith) c.requires.below,
+          omega (arith, left, c.requires.within),
+          settled_same (place_of c.args.place.now) (front OneFocus c.args.n c.args.e.now) (front OneFocus (c.args.n - half) middle)
+              c.args.parts c.args.known (sym rest) c.requires.below,
         ),
       ),
     )
 
 pub settle_rise-settle_rise-requires-2 : goal.settle_rise-settle_rise-requires-2
 settle_rise-settle_rise-requires-2 t c =
-    let at = standing c.args.e.now c.args.place.now.context in
     let half = c.args.n / 2 in (
       omega arith,
       (
         omega arith,
         (
           omega (arith, c.requires.within),
-          settled_there half at c.fall.result.0.now c.fall.result.1 c.fall.ensures.expr c.fall.ensures.context
-              (place_of c.args.place.now) c.settle_rise.new.done c.in_ok-answer.answer c.new-halfway.result c.new-halfway.ensures c.in_ok-answer.ensures.0 c.in_ok-answer.ensures.1,
+          settled_there (place_of c.args.place.now) c.below-middle.result.now (front OneFocus half c.args.e.now)
+              c.new-halfway.result c.settle_rise.new.done c.in_ok-answer.answer c.below-middle.ensures.is c.new-halfway.ensures
+              c.in_ok-answer.ensures.0 c.in_ok-answer.ensures.1,
         ),
       ),
     )
@@ -113,21 +112,19 @@ settle_in-settle_level-requires t c =
 
 pub settle_in-settle_level-requires-2 : goal.settle_in-settle_level-requires-2
 settle_in-settle_level-requires-2 t c =
-    let at = standing c.args.e.now c.args.place.now.context in
-    let h = below_no_larger c.levels-n.result at c.fall.result.0.now c.fall.ensures.expr in
-    (omega (arith, h), begun_none c.fall.result.0.now (record (place_of c.args.place.now) { context = c.fall.result.1 }) c.new-2.result c.none-2.result c.new-2.ensures c.none-2.ensures)
+    (omega (arith, c.below-bottom.ensures.smaller), begun_none c.below-bottom.result.now (place_of c.args.place.now) c.new-2.result c.none-2.result c.new-2.ensures c.none-2.ensures)
 
 pub settle_in-settle_rise-requires : goal.settle_in-settle_rise-requires
 settle_in-settle_rise-requires t c =
-    let at = standing c.args.e.now c.args.place.now.context in
     let n = c.levels-n.result in (
       omega arith,
       (
         omega arith,
         (
           omega (arith, c.levels-n.ensures),
-          settled_there n at c.fall.result.0.now c.fall.result.1 c.fall.ensures.expr c.fall.ensures.context
-              (place_of c.args.place.now) c.settle_level-2.new.done c.in_ok-answer.answer c.new-parts.result c.new-parts.ensures c.in_ok-answer.ensures.0 c.in_ok-answer.ensures.1,
+          settled_there (place_of c.args.place.now) c.below-bottom.result.now (front OneFocus n c.args.e.now)
+              c.new-parts.result c.settle_level-2.new.done c.in_ok-answer.answer c.below-bottom.ensures.is c.new-parts.ensures
+              c.in_ok-answer.ensures.0 c.in_ok-answer.ensures.1,
         ),
       ),
     )
