@@ -172,11 +172,11 @@ impl Session {
     /// them that at the document node. Where there may be none it has stopped with SXLI0001.
     pub fn start(
         alloc: Global,
-        sheet: Sheet,
+        sheet: &Sheet,
         invocations: u64,
         names: &Names,
     ) -> Result<Session, AllocError>
-        ensures stands { IfOk result (λ s. IsReady sheet names.now → IsDistinct names.now → Stands sheet names.now invocations s [] 0) }
+        ensures stands { IfOk result (λ s. IsReady sheet.now names.now → IsDistinct names.now → Stands sheet.now names.now invocations s [] 0) }
         ensures spent { IfOk result (λ s. is_spent s ≡ false) }
     {
         Ok(Session {

@@ -2,8 +2,9 @@
 use Rattle.std.proofs.Common.{◌≡◌, ◌≢◌, ℕ, suc, ◌+◌, ◌<◌, ◌≤◌, Bool, IsTrue, List, [], ◌∷◌, ◌++◌, length, take, slice_get, Option, Some, option_and_then, unwrap_or, Ok, ◌↔◌, refl, ap, sym, ◌∙◌, subst, arith}
 use Rattle.sx_desk.specs.Desk.{Seen, Rose, Opens, bytes_of}
 use Rattle.sx_desk.specs.declared.desk.Out.TheVariants as out
-use Rattle.sx_reading.specs.Headline.{WrittenFor, OutcomeFor, RiseTo, HasMark, MarksStand, Answers, Transforms, ToldEnd}
-use Rattle.sx_reading.specs.Program.{Untouched, Ran, Opened, OpensOrNot, Headline}
+use Rattle.sx_reading.specs.Transforming.{WrittenFor, OutcomeFor, RiseTo, StepTo, HasMark, MarksStand, Answers, Transforms, ToldEnd}
+use Rattle.sx_reading.specs.Headline.{Ran, Opened, OpensOrNot, Headline}
+use Rattle.sx_reading.specs.Program.{Untouched}
 use Rattle.sx_reading.specs.declared.status.Status.{Status}
 use Rattle.sx_reading.specs.declared.status.Status.TheVariants as status
 
@@ -59,6 +60,7 @@ module _ (written : WrittenFor) (outcome : OutcomeFor) where
               stand = subst (λ (ms : List (ℕ × ℕ)). MarksStand written outcome (bytes_of mid file) (old.written_length out.Result) w ms) same
                   (subst (λ (k : ℕ). MarksStand written outcome (bytes_of mid file) k w added) length_kept m.stand);
               rise = subst (λ (ms : List (ℕ × ℕ)). RiseTo ms (suc (new.taken file))) same m.rise;
+              steps = subst (λ (ms : List (ℕ × ℕ)). StepTo ms (new.taken file)) same m.steps;
               last_read = subst (λ (ms : List (ℕ × ℕ)). IsTrue ended ↔ ((s ≢ status.ReadFault) × HasMark (length (bytes_of mid file)) ms)) same x.marks.2;
             };
       }
@@ -117,6 +119,7 @@ module _ (written : WrittenFor) (outcome : OutcomeFor) where
               bytes = y.written ∙ before.bytes;
               stand = subst (λ (ms : List (ℕ × ℕ)). MarksStand written outcome c (old.written_length out.Result) w ms) marks before.stand;
               rise = subst (λ (ms : List (ℕ × ℕ)). RiseTo ms (suc (new.taken file))) marks (subst (λ (k : ℕ). RiseTo (mid.marks file) (suc k)) taken before.rise);
+              steps = subst (λ (ms : List (ℕ × ℕ)). StepTo ms (new.taken file)) marks (subst (λ (k : ℕ). StepTo (mid.marks file) k) taken before.steps);
               last_read = subst (λ (ms : List (ℕ × ℕ)). IsTrue ended ↔ ((s ≢ status.ReadFault) × HasMark (length c) ms)) marks before.last_read;
             };
       }

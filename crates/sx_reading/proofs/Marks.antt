@@ -1,6 +1,6 @@
 -- Marks, one more at the end.
-use Rattle.std.proofs.Common.{◌≡◌, ◌⊎◌, inl, inr, ℕ, zero, suc, ◌<◌, ◌≤◌, Bool, true, false, List, [], ◌∷◌, ◌++◌, length, take, refl, ap, sym, ◌∙◌, arith, append_assoc}
-use Rattle.sx_reading.specs.Headline.{WrittenFor, OutcomeFor, MarkStands, MarksStand, RiseFrom, RiseTo, HasMark}
+use Rattle.std.proofs.Common.{◌≡◌, ◌⊎◌, inl, inr, ℕ, zero, suc, ◌+◌, ◌<◌, ◌≤◌, Bool, true, false, List, [], ◌∷◌, ◌++◌, length, take, refl, ap, sym, ◌∙◌, arith, append_assoc}
+use Rattle.sx_reading.specs.Transforming.{WrittenFor, OutcomeFor, MarkStands, MarksStand, RiseFrom, RiseTo, most_read, StepFrom, StepTo, HasMark}
 use Rattle.sx_reading.specs.Turn.{is_end}
 
 module _ (written : WrittenFor) (outcome : OutcomeFor) where
@@ -34,6 +34,15 @@ rise_from_weaker low (k ∷ ks) a b le r = (r.0, rise_from_weaker k.0 ks a b le 
 pub rise_weaker : (marks : List (ℕ × ℕ)) (a b : ℕ) → a ≤ b → RiseTo marks a → RiseTo marks b
 rise_weaker [] a b le r = tt
 rise_weaker (k ∷ ks) a b le r = rise_from_weaker k.0 ks a b le r
+
+step_from_snoc : (low : ℕ) (marks : List (ℕ × ℕ)) (m : ℕ × ℕ) (last : ℕ) → StepFrom low marks m.0 → last ≤ m.0 + most_read → StepFrom low (marks ++ m ∷ []) last
+step_from_snoc low [] m last s le = (s, le)
+step_from_snoc low (k ∷ ks) m last s le = (s.0, step_from_snoc k.0 ks m last s.1 le)
+
+-- one read more
+pub step_snoc : (marks : List (ℕ × ℕ)) (m : ℕ × ℕ) (last : ℕ) → StepTo marks m.0 → last ≤ m.0 + most_read → StepTo (marks ++ m ∷ []) last
+step_snoc [] m last s le = (s, le)
+step_snoc (k ∷ ks) m last s le = (s.0, step_from_snoc k.0 ks m last s.1 le)
 
 low_below : (low : ℕ) (marks : List (ℕ × ℕ)) (limit : ℕ) → RiseFrom low marks limit → low < limit
 low_below low [] limit r = r

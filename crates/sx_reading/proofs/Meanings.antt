@@ -1,7 +1,7 @@
 -- The meaning of bytes that are read whole before anything comes of them.
 use Rattle.std.proofs.Common.{◌≡◌, ◌≢◌, ℕ, ◌^◌, ◌<◌, Bool, true, false, List, [], length, Option, Some, None, refl}
 use Rattle.sx_limits.specs.declared.faults.DocFault.{DocFault}
-use Rattle.sx_reading.specs.Headline.{IsMeaning, nothing_written, whole_outcome}
+use Rattle.sx_reading.specs.Transforming.{IsMeaning, nothing_written, whole_outcome}
 use Rattle.sx_reading.specs.declared.consumer.Outcome.TheVariants as outcomes
 use Rattle.sx_reading.specs.declared.status.Input.{Input}
 

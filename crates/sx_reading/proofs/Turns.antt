@@ -10,7 +10,7 @@ use Rattle.sx_desk.specs.declared.desk.Out.TheVariants as out
 use Rattle.sx_limits.specs.Faults.{is_limit}
 use Rattle.sx_limits.specs.declared.faults.DocFault.{DocFault}
 use Rattle.sx_reading.specs.Frame.{Sent, Sends}
-use Rattle.sx_reading.specs.Headline.{WrittenFor, OutcomeFor, IsMeaning, Grows, RiseTo, HasMark, Comes, IsCaused, Answers, Transforms, ToldEnd, TookWhole, status_of}
+use Rattle.sx_reading.specs.Transforming.{WrittenFor, OutcomeFor, IsMeaning, Grows, RiseTo, most_read, StepTo, HasMark, Comes, IsCaused, Answers, Transforms, ToldEnd, ToldLeft, status_of}
 use Rattle.sx_reading.specs.Turn.{is_end, ToldMid, Fed, Running, Stops, AfterFlush, AfterTurn}
 use Rattle.sx_reading.specs.declared.consumer.Outcome.{Outcome}
 use Rattle.sx_reading.specs.declared.consumer.Outcome.TheVariants as outcomes
@@ -18,7 +18,7 @@ use Rattle.sx_reading.specs.declared.status.Input.{Input}
 use Rattle.sx_reading.specs.declared.status.Status.{Status}
 use Rattle.sx_reading.specs.declared.status.Status.TheVariants as status
 use Rattle.sx_reading.proofs.Frames.{same, then, of_read}
-use Rattle.sx_reading.proofs.Marks.{stand_longer, stand_snoc, rise_snoc, rise_weaker, none_above, has_snoc, split_snoc, EndIs, end_is}
+use Rattle.sx_reading.proofs.Marks.{stand_longer, stand_snoc, rise_snoc, rise_weaker, step_snoc, none_above, has_snoc, split_snoc, EndIs, end_is}
 
 same_bytes : (f g : List ℕ → Option (List ℕ)) (o : Option (List ℕ)) → ((n : List ℕ) → f n ≡ g n) → unwrap_or (option_and_then f o) [] ≡ unwrap_or (option_and_then g o) []
 same_bytes f g None e = refl
@@ -71,20 +71,17 @@ no_fault outcomes.Done = (λ q. cc, λ q. cc, λ c l q. cc, λ q. cc, λ q. cc)
 no_fault (outcomes.Dynamic c) = (λ q. cc, λ q. cc, λ c l q. cc, λ q. cc, λ q. cc)
 no_fault (outcomes.Broken i f) = broken_no_fault i f (is_limit f.which)
 
-broken_not_ok : (i : Input) (f : DocFault) (limit : Bool) → cond limit (status.Limit i f) (status.Malformed i f) ≡ status.Ok → ⊥
-broken_not_ok i f true q = cc
-broken_not_ok i f false q = cc
-
-is_done : (o : Outcome) → status_of o ≡ status.Ok → o ≡ outcomes.Done
-is_done outcomes.Done q = refl
-is_done (outcomes.Dynamic c) q = absurd (cc)
-is_done (outcomes.Broken i f) q = absurd (broken_not_ok i f (is_limit f.which) q)
+-- a consumer that was told of the end was fed the whole file
+pub whole_input : (file : ℕ) (old new : Seen) (input : List ℕ) (ended : Bool) (taken : List ℕ) → ToldLeft file old new input ended taken → IsTrue ended → input ≡ bytes_of old file
+whole_input file old new input ended taken left h =
+    let all : new.taken file ≡ length (bytes_of old file) = left.end h in
+    left.input_is ∙ take_all (new.taken file) (bytes_of old file) (omega arith)
 
 module _ (written : WrittenFor) (outcome : OutcomeFor) where
   -- a read leaves what was written, and adds a mark
-  mid_more : (e : Bool) (file n : ℕ) (start s0 s1 : Seen) (b buf : List ℕ) → EndIs e n → Running written outcome file start s0 b → Reads file s0 s1 buf (Ok n) → IsTrue s1.told →
+  mid_more : (e : Bool) (file n : ℕ) (start s0 s1 : Seen) (b buf : List ℕ) → EndIs e n → n ≤ most_read → Running written outcome file start s0 b → Reads file s0 s1 buf (Ok n) → IsTrue s1.told →
       ToldMid written outcome file start s1 e (written b false)
-  mid_more e file n start s0 s1 b buf is run read t1 =
+  mid_more e file n start s0 s1 b buf is few run read t1 =
       let t0 = read.known.told t1 in
       let told = read.told t1 in
       let next : TookNext file s0 s1 buf n = told.next in
@@ -125,6 +122,7 @@ module _ (written : WrittenFor) (outcome : OutcomeFor) where
                     going = ap (λ (r : List ℕ). outcome r false) (sym these) ∙ run.going;
                   });
                   rise = rise_snoc added point (cond e (suc (s1.taken file)) (s1.taken file)) m.rise (below_limit e n t (s1.taken file) is at);
+                  steps = step_snoc added point (s1.taken file) m.steps (omega (arith, few, at));
                 },
                 (
                   λ h.
@@ -144,9 +142,9 @@ module _ (written : WrittenFor) (outcome : OutcomeFor) where
       }
 
   -- bytes that were read are fed
-  pub read_feeds : (file n : ℕ) (start s0 s1 : Seen) (b buf : List ℕ) → Running written outcome file start s0 b → Reads file s0 s1 buf (Ok n) → n ≤ length buf →
+  pub read_feeds : (file n : ℕ) (start s0 s1 : Seen) (b buf : List ℕ) → Running written outcome file start s0 b → Reads file s0 s1 buf (Ok n) → n ≤ length buf → n ≤ most_read →
       Fed written outcome file start s1 (b ++ take n buf) (is_end (take n buf)) (written b false)
-  read_feeds file n start s0 s1 b buf run read le = record {
+  read_feeds file n start s0 s1 b buf run read le few = record {
     frame = then run.fed.frame (of_read file out.Result s0 s1 buf (Ok n) read);
     taken = λ t1.
         let t0 = read.known.told t1 in
@@ -156,7 +154,7 @@ module _ (written : WrittenFor) (outcome : OutcomeFor) where
         let kept = run.fed.frame.told t0 in
         let same = bytes_kept file start s0 kept.content kept.opened in
         ap₂ (λ (x y : List ℕ). x ++ y) (run.fed.taken t0) (next.bytes ∙ ap (λ (r : List ℕ). take n (drop t r)) same) ∙ sym (take-add t n c) ∙ ap (λ (k : ℕ). take k c) (sym next.taken);
-    told = λ t1. mid_more (is_end (take n buf)) file n start s0 s1 b buf (end_is n buf le) run read t1;
+    told = λ t1. mid_more (is_end (take n buf)) file n start s0 s1 b buf (end_is n buf le) few run read t1;
   }
 
   -- what is sent comes behind
@@ -181,6 +179,7 @@ module _ (written : WrittenFor) (outcome : OutcomeFor) where
                   all = x.marks h file ∙ m.all;
                   stand = stand_longer written outcome (bytes_of start file) (start.written_length out.Result) w front before.marks.0 m.stand;
                   rise = subst (λ (t : ℕ). RiseTo before.marks.0 (cond e (suc t) t)) (sym same) m.rise;
+                  steps = subst (λ (t : ℕ). StepTo before.marks.0 t) (sym same) m.steps;
                 },
                 before.marks.2,
               );
@@ -204,6 +203,7 @@ module _ (written : WrittenFor) (outcome : OutcomeFor) where
               all = m.all;
               stand = m.stand;
               rise = rise_weaker before.marks.0 (cond e (suc (now.taken file)) (now.taken file)) (suc (now.taken file)) (limit_le e (now.taken file)) m.rise;
+              steps = m.steps;
             },
             (λ ended. (no_read_fault, before.marks.2.0 ended), λ both. before.marks.2.1 both.1),
           );
@@ -360,6 +360,7 @@ module _ (written : WrittenFor) (outcome : OutcomeFor) where
                         going = ap (λ (r : List ℕ). outcome r false) (sym these) ∙ run.going;
                       });
                       rise = rise_snoc added point (suc (s1.taken file)) m.rise (omega arith);
+                      steps = step_snoc added point (s1.taken file) m.steps (omega (arith, same));
                     },
                     (λ h. absurd (false≢true h), λ both. absurd (both.0 refl)),
                   );
@@ -381,7 +382,7 @@ module _ (written : WrittenFor) (outcome : OutcomeFor) where
           written_length = omega arith;
           shown = λ h. record {
             bytes = sym (append-nil (s.written out.Result));
-            marks = ([], record { all = sym (append-nil (s.marks file)); stand = tt; rise = tt }, (λ e. absurd (false≢true e), λ has. absurd has));
+            marks = ([], record { all = sym (append-nil (s.marks file)); stand = tt; rise = tt; steps = z }, (λ e. absurd (false≢true e), λ has. absurd has));
           };
         };
   }
@@ -401,29 +402,95 @@ module _ (written : WrittenFor) (outcome : OutcomeFor) where
       }
 
   module _ (Stands : List ℕ → Bool → List ℕ → Type 0) (file : ℕ) (start now : Seen) where
-    -- an end other than Ok
-    pub stops_short : (s : Status) → s ≢ status.Ok → Transforms written outcome file start now s → Stops written outcome Stands file start now s
-    stops_short s not_ok run = record { transforms = run; whole = λ q. absurd (not_ok q) }
+    -- memory was wanting
+    pub stops_bare : Transforms written outcome file start now status.OutOfMemory → Stops written outcome Stands file start now status.OutOfMemory
+    stops_bare run = record { transforms = run; left = λ some. absurd (some refl) }
 
-    took_whole : (b : List ℕ) (e : Bool) → e ≡ true → outcome b e ≡ Some outcomes.Done → Fed written outcome file start now b e (written b e) → Stands b e (written b e) → TookWhole Stands written outcome file start now
-    took_whole b false last done fed stands = absurd (false≢true last)
-    took_whole b true last done fed stands = record {
-      input = b;
-      done = done;
-      stands = stands;
-      told = λ t.
-          let all : now.taken file ≡ length (bytes_of start file) = (fed.told t).end refl in
-          fed.taken t ∙ take_all (now.taken file) (bytes_of start file) (omega arith);
-    }
+    -- what was taken is all that was written
+    told_left : (b w : List ℕ) (e : Bool) → Fed written outcome file start now b e w → IsTrue now.told → ToldLeft file start now b e w
+    told_left b w e fed t =
+        let mid = fed.told t in
+        record {
+          input_is = fed.taken t;
+          end = mid.end;
+          wrote = w;
+          front = ([], append-nil w);
+          written_length = mid.written_length;
+          written = λ h. (mid.shown h).bytes;
+        }
 
     -- the bytes have an outcome, and all that can be written was written
     pub settles : (b : List ℕ) (e : Bool) (o : Outcome) → IsMeaning written outcome → Fed written outcome file start now b e (written b e) → outcome b e ≡ Some o → Stands b e (written b e) →
         Stops written outcome Stands file start now (status_of o)
     settles b e o meaning fed is stands = record {
       transforms = settled file start now b e o (meaning.done b e) fed is;
-      whole = λ ok.
-          let done = is ∙ ap (λ (x : Outcome). Some x) (is_done o ok) in
-          took_whole b e (meaning.done b e done) done fed stands;
+      left = λ some. record {
+        input = b;
+        ended = e;
+        taken = written b e;
+        stands = stands;
+        answer = answered o b e (meaning.done b e) is;
+        not_ended = λ q. absurd ((no_fault o).3 q);
+        told = told_left b (written b e) e fed;
+      };
+    }
+
+    -- a write failed, and what was due was not counted as taken
+    pub stops_writing : (s1 : Seen) (b w output : List ℕ) (e : Bool) (f : Failed) → Fed written outcome file start s1 b e w → w ++ output ≡ written b e → Sends out.Result output s1 now (Err f) → Stands b e w →
+        Stops written outcome Stands file start now status.WriteFault
+    stops_writing s1 b w output e f fed whole sends stands = record {
+      transforms = flush_fails file start s1 now b w output e fed whole f sends;
+      left = λ some. record {
+        input = b;
+        ended = e;
+        taken = w;
+        stands = stands;
+        answer = (output, whole);
+        not_ended = λ q. absurd (cc);
+        told = λ t2.
+            let sending = sends.some.1 in
+            let known = (sending.frame file).known in
+            let t1 = known.told t2 in
+            let front = (sending.told t2).0 in
+            let x = (sending.told t2).1 in
+            let mid = sent_mid file start s1 now e w output front sends.some.0 (fed.told t1) x known.shown in
+            record {
+              input_is = fed.taken t1 ∙ ap (λ (k : ℕ). take k (bytes_of start file)) (sym (x.taken file));
+              end = mid.end;
+              wrote = w ++ front;
+              front = (front, refl);
+              written_length = mid.written_length;
+              written = λ h. (mid.shown h).bytes;
+            };
+      };
+    }
+
+    -- a read failed
+    pub stops_reading : (s0 : Seen) (b buf : List ℕ) (f : Failed) → Running written outcome file start s0 b → Reads file s0 now buf (Err f) → Stands b false (written b false) →
+        Stops written outcome Stands file start now status.ReadFault
+    stops_reading s0 b buf f run read stands = record {
+      transforms = read_fails file start s0 now b buf f run read;
+      left = λ some. record {
+        input = b;
+        ended = false;
+        taken = written b false;
+        stands = stands;
+        answer = refl;
+        not_ended = λ q. refl;
+        told = λ t1.
+            let t0 = read.known.told t1 in
+            let told = read.told t1 in
+            let same : now.taken file ≡ s0.taken file = told.nothing in
+            let before = run.fed.told t0 in
+            record {
+              input_is = run.fed.taken t0 ∙ ap (λ (k : ℕ). take k (bytes_of start file)) (sym same);
+              end = λ h. absurd (false≢true h);
+              wrote = written b false;
+              front = ([], append-nil (written b false));
+              written_length = told.written_length out.Result ∙ before.written_length;
+              written = λ h1. (read.shown t1 h1).written out.Result ∙ (before.shown (read.known.shown h1)).bytes;
+            };
+      };
     }
 
     -- bytes that have no outcome have not ended, and are within the limit

@@ -1,163 +1,61 @@
--- What was read and written, at each read and at the end, whatever the meaning of the bytes is.
-use Rattle.std.specs.Prelude.{◌≡◌, ◌≢◌, ◌⊎◌, ◌↔◌, ℕ, suc, ◌+◌, ◌^◌, ◌<◌, ◌≤◌, Bool, true, false, IsTrue, List, [], ◌∷◌, ◌++◌, length, take, Option, Some, None, if◌then◌else◌, Result, Ok, Err}
-use Rattle.sx_atoms.specs.declared.error_codes.Code.{Code}
-use Rattle.sx_desk.specs.Desk.{Seen, Rose, bytes_of}
+-- What a call does to a desk that runs on the document of a name.
+use Rattle.std.specs.Prelude.{◌≡◌, ◌≢◌, ◌↔◌, ℕ, suc, ◌+◌, ◌<◌, ◌≤◌, Bool, IsTrue, List, [], ◌∷◌, ◌++◌, length, take, unwrap_or, IsSome}
+use Rattle.sx_desk.specs.Desk.{Seen, Rose, StaysKnown}
 use Rattle.sx_desk.specs.declared.desk.Out.TheVariants as out
-use Rattle.sx_limits.specs.Faults.{is_limit}
-use Rattle.sx_limits.specs.declared.faults.DocFault.{DocFault}
-use Rattle.sx_reading.specs.Frame.{Frame}
-use Rattle.sx_reading.specs.declared.status.Input.{Input}
+use Rattle.sx_reading.specs.Transforming.{WrittenFor, OutcomeFor, RiseTo, StepTo, HasMark, MarksStand, Answers}
 use Rattle.sx_reading.specs.declared.status.Status.{Status}
 use Rattle.sx_reading.specs.declared.status.Status.TheVariants as status
-use Rattle.sx_reading.specs.declared.consumer.Outcome.{Outcome}
-use Rattle.sx_reading.specs.declared.consumer.Outcome.TheVariants as outcomes
-
--- a list begins with another
-abbrev pub BeginsWith : List ℕ → List ℕ → Type 0
-BeginsWith xs front = (rest : List ℕ) × (front ++ rest ≡ xs)
-
--- the first numbers grow strictly, from above a number on, and stay below a limit
-abbrev pub RiseFrom : ℕ → List (ℕ × ℕ) → ℕ → Type 0
-RiseFrom low [] limit = low < limit
-RiseFrom low (mark ∷ marks) limit = (low < mark.0) × RiseFrom mark.0 marks limit
-
--- the same from any number on
-abbrev pub RiseTo : List (ℕ × ℕ) → ℕ → Type 0
-RiseTo [] limit = Unit {0}
-RiseTo (mark ∷ marks) limit = RiseFrom mark.0 marks limit
-
--- a read began when so many bytes were taken
-abbrev pub HasMark : ℕ → List (ℕ × ℕ) → Type 0
-HasMark t [] = ⊥
-HasMark t (mark ∷ marks) = (mark.0 ≡ t) ⊎ HasMark t marks
-
--- the status that an outcome of a document's bytes gives
-abbrev pub status_of : Outcome → Status
-status_of outcomes.Done = status.Ok
-status_of (outcomes.Dynamic c) = status.Dynamic c
-status_of (outcomes.Broken i f) = if is_limit f.which then status.Limit i f else status.Malformed i f
-
--- what is written for bytes, and whether the input has ended with them
-abbrev pub WrittenFor : Type 0
-WrittenFor = List ℕ → Bool → List ℕ
-
--- where bytes end, or nothing where more may come
-abbrev pub OutcomeFor : Type 0
-OutcomeFor = List ℕ → Bool → Option Outcome
-
--- more bytes only add to what is written
-abbrev pub Grows : WrittenFor → Type 0
-Grows written = (b d : List ℕ) (ended : Bool) → (more : List ℕ) × (written (b ++ d) ended ≡ written b false ++ more)
-
--- some bytes have this outcome
-abbrev pub Comes : OutcomeFor → Outcome → Type 0
-Comes outcome o = (b : List ℕ) × (ended : Bool) × (outcome b ended ≡ Some o)
-
--- what a status needs, whatever is known of the desk: an outcome that some bytes have, or nothing where it tells of a
--- fault of the desk or of wanting memory
-abbrev pub IsCaused : OutcomeFor → Status → Type 0
-IsCaused outcome status.Ok = Comes outcome outcomes.Done
-IsCaused outcome status.Usage = ⊥
-IsCaused outcome (status.Static c l) = ⊥
-IsCaused outcome (status.Dynamic c) = Comes outcome (outcomes.Dynamic c)
-IsCaused outcome (status.Malformed i f) = Comes outcome (outcomes.Broken i f)
-IsCaused outcome status.OpenFault = ⊥
-IsCaused outcome status.ReadFault = Unit {0}
-IsCaused outcome status.WriteFault = Unit {0}
-IsCaused outcome (status.Limit i f) = Comes outcome (outcomes.Broken i f)
-IsCaused outcome status.OutOfMemory = Unit {0}
-
--- A meaning of bytes: more bytes only add to what is written; the whole result is done only where the input has ended;
--- an input that has ended has an outcome, and so have bytes beyond the limit of a document.
-pub record IsMeaning (written : WrittenFor) (outcome : OutcomeFor) : Type 0 where
-  pub grows : Grows written
-  pub done : (b : List ℕ) (ended : Bool) → outcome b ended ≡ Some outcomes.Done → ended ≡ true
-  pub ends : (b : List ℕ) → outcome b true ≢ None
-  pub bounded : (b : List ℕ) (ended : Bool) → 2 ^ 40 < length b → outcome b ended ≢ None
-
--- for a stylesheet nothing is written
-abbrev pub nothing_written : WrittenFor
-nothing_written b ended = []
-
--- where bytes end that are read whole before anything comes of them: they are broken off, or have ended
-abbrev pub whole_outcome : Input → Option DocFault → Bool → Option Outcome
-whole_outcome input (Some fault) ended = Some (outcomes.Broken input fault)
-whole_outcome input None true = Some outcomes.Done
-whole_outcome input None false = None
-
--- the status of reading bytes or failing
-abbrev pub status_of_bytes : {Y : Type 0} → Result Y Status → Status
-status_of_bytes (Ok bytes) = status.Ok
-status_of_bytes (Err s) = s
-
--- a failure has a status other than Ok
-abbrev pub IsFailure : {Y : Type 0} → Result Y Status → Type 0
-IsFailure (Ok bytes) = Unit {0}
-IsFailure (Err s) = s ≢ status.Ok
-
--- A consumer, of which it is said what it stands for, took the whole file: it was fed all of its bytes and told of the
--- end, and all that is written for them was taken from it.
-pub record TookWhole (Stands : List ℕ → Bool → List ℕ → Type 0) (written : WrittenFor) (outcome : OutcomeFor) (file : ℕ) (old new : Seen) : Type 0 where
-  pub input : List ℕ
-  pub done : outcome input true ≡ Some outcomes.Done
-  pub stands : Stands input true (written input true)
-  pub told : IsTrue new.told → input ≡ bytes_of old file
 
 module _ (written : WrittenFor) (outcome : OutcomeFor) where
-  -- What a mark says where the content is c, the result had so many bytes before, and these were written in the call:
-  -- the bytes taken by then have no outcome yet, and exactly what they determine was written.
-  pub record MarkStands (c : List ℕ) (before : ℕ) (w : List ℕ) (mark : ℕ × ℕ) : Type 0 where
-    pub count : mark.1 ≡ before + length (written (take mark.0 c) false)
-    pub front : BeginsWith w (written (take mark.0 c) false)
-    pub going : outcome (take mark.0 c) false ≡ None
-
-  -- each mark does
-  abbrev pub MarksStand : List ℕ → ℕ → List ℕ → List (ℕ × ℕ) → Type 0
-  MarksStand c before w [] = Unit {0}
-  MarksStand c before w (mark ∷ marks) = MarkStands c before w mark × MarksStand c before w marks
-
-  -- bytes have this outcome, and exactly what they determine was written
-  abbrev pub Determined : Outcome → List ℕ → Bool → List ℕ → Type 0
-  Determined o b ended w = (outcome b ended ≡ Some o) × (w ≡ written b ended)
-
-  -- what a status says of the bytes taken, of whether the input has ended, and of the bytes written
-  abbrev pub Answers : Status → List ℕ → Bool → List ℕ → Type 0
-  Answers status.Ok b ended w = IsTrue ended × Determined outcomes.Done b ended w
-  Answers status.Usage b ended w = ⊥
-  Answers (status.Static c l) b ended w = ⊥
-  Answers (status.Dynamic c) b ended w = Determined (outcomes.Dynamic c) b ended w
-  Answers (status.Malformed i f) b ended w = (is_limit f.which ≡ false) × Determined (outcomes.Broken i f) b ended w
-  Answers status.OpenFault b ended w = ⊥
-  Answers status.ReadFault b ended w = w ≡ written b false
-  Answers status.WriteFault b ended w = BeginsWith (written b ended) w
-  Answers (status.Limit i f) b ended w = (is_limit f.which ≡ true) × Determined (outcomes.Broken i f) b ended w
-  Answers status.OutOfMemory b ended w = BeginsWith (written b ended) w
-
-  -- the marks that a call added
-  pub record Marked (c : List ℕ) (before : ℕ) (w : List ℕ) (old new added : List (ℕ × ℕ)) (limit : ℕ) : Type 0 where
-    pub all : new ≡ old ++ added
-    pub stand : MarksStand c before w added
-    pub rise : RiseTo added limit
-
-  -- The input has ended where a read began when all was taken, and that read did not fail.
-  pub record ShownEnd (file : ℕ) (old new : Seen) (s : Status) (ended : Bool) (w : List ℕ) : Type 0 where
+  -- What the marks of this file and the bytes of the result say, where c is its content and w was written. The input
+  -- has ended where a read began when all was taken, and that read did not fail.
+  pub record ShownRun (c : List ℕ) (file : ℕ) (old new : Seen) (s : Status) (ended : Bool) (w : List ℕ) : Type 0 where
     pub bytes : new.written out.Result ≡ old.written out.Result ++ w
-    pub marks : (added : List (ℕ × ℕ)) × Marked (bytes_of old file) (old.written_length out.Result) w (old.marks file) (new.marks file) added (suc (new.taken file))
-        × (IsTrue ended ↔ ((s ≢ status.ReadFault) × HasMark (length (bytes_of old file)) added))
+    pub stand : MarksStand written outcome c (old.written_length out.Result) w (new.marks file)
+    pub rise : RiseTo (new.marks file) (suc (new.taken file))
+    pub steps : StepTo (new.marks file) (new.taken file)
+    pub last_read : IsTrue ended ↔ ((s ≢ status.ReadFault) × HasMark (length c) (new.marks file))
 
-  -- at the end of a call w was written, as the bytes taken say
-  pub record ToldEnd (file : ℕ) (old new : Seen) (s : Status) (ended : Bool) (w : List ℕ) : Type 0 where
-    pub within : new.taken file ≤ length (bytes_of old file)
-    pub end : IsTrue ended → new.taken file ≡ length (bytes_of old file)
+  -- The file was read from its beginning, c being its content, and w was written to the result.
+  pub record Ran (c : List ℕ) (file : ℕ) (old new : Seen) (s : Status) (ended : Bool) (w : List ℕ) : Type 0 where
+    pub within : new.taken file ≤ length c
+    pub end : IsTrue ended → new.taken file ≡ length c
     pub written_length : new.written_length out.Result ≡ old.written_length out.Result + length w
-    pub answer : Answers s (take (new.taken file) (bytes_of old file)) ended w
-    pub shown : IsTrue new.shown → ShownEnd file old new s ended w
+    pub answer : Answers written outcome s (take (new.taken file) c) ended w
+    pub shown : IsTrue new.shown → ShownRun c file old new s ended w
 
-  -- What a transformation did to a desk: it read this file, of which nothing was taken, and wrote to the result.
-  pub record Transforms (file : ℕ) (old new : Seen) (s : Status) : Type 0 where
-    pub frame : Frame file out.Result old new
-    pub kind : (s ≢ status.Usage) × (s ≢ status.OpenFault) × ((c : Code) (l : ℕ) → s ≢ status.Static c l)
-    pub cause : IsCaused outcome s
+  -- the document was opened and run
+  pub record Opened (name : List ℕ) (old new : Seen) (s : Status) : Type 0 where
+    pub opened : new.opened ≡ old.opened ++ name ∷ []
+    pub found : IsSome (old.content name)
+    pub ran : (ended : Bool) × (w : List ℕ) × Ran (unwrap_or (old.content name) []) (length old.opened) old new s ended w
+
+  -- the document was not opened, and nothing was written
+  pub record NotOpened (old new : Seen) : Type 0 where
+    pub opened : new.opened ≡ old.opened
+    pub written_length : new.written_length out.Result ≡ old.written_length out.Result
+    pub bytes : IsTrue new.shown → new.written out.Result ≡ old.written out.Result
+
+  -- after OpenFault the document was not opened, after every other status it was
+  abbrev pub OpensOrNot : List ℕ → Seen → Seen → Status → Type 0
+  OpensOrNot name old new status.OpenFault = NotOpened old new
+  OpensOrNot name old new s = Opened name old new s
+
+  -- no other name was asked for, and no other file was touched
+  pub record ToldRun (name : List ℕ) (old new : Seen) (s : Status) : Type 0 where
+    pub content : (n : List ℕ) → new.content n ≡ old.content n
+    pub asked : new.asked ≡ old.asked ++ name ∷ []
+    pub others : (f : ℕ) → f < length old.opened → new.taken f ≡ old.taken f
+    pub other_marks : IsTrue new.shown → (f : ℕ) → f < length old.opened → new.marks f ≡ old.marks f
+    pub run : OpensOrNot name old new s
+
+  -- What a call does that runs on the document of a name: at each read of it, what has been written is exactly what the
+  -- bytes taken determine, and so at the end; the desk's faults have their statuses, and no other file is touched.
+  pub record Headline (name : List ℕ) (old new : Seen) (s : Status) : Type 0 where
+    pub known : StaysKnown old new
+    pub not_usage : s ≢ status.Usage
+    pub open_fault : s ≡ status.OpenFault → Rose old.open_faults new.open_faults
     pub read_fault : s ≡ status.ReadFault → Rose old.read_faults new.read_faults
     pub write_fault : s ≡ status.WriteFault → Rose (old.write_faults out.Result) (new.write_faults out.Result)
-    pub told : IsTrue new.told → (ended : Bool) × (w : List ℕ) × ToldEnd file old new s ended w
+    pub count : (s ≢ status.OpenFault → length new.opened ≡ length old.opened + 1) × (s ≡ status.OpenFault → length new.opened ≡ length old.opened)
+    pub told : IsTrue new.told → ToldRun name old new s

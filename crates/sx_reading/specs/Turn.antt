@@ -1,9 +1,9 @@
 -- What a transformation keeps from read to read.
-use Rattle.std.specs.Prelude.{◌≡◌, ◌↔◌, ℕ, suc, ◌+◌, ◌^◌, ◌≤◌, Bool, true, false, IsTrue, if◌then◌else◌, List, [], ◌∷◌, ◌++◌, length, take, Option, Some, None}
+use Rattle.std.specs.Prelude.{◌≡◌, ◌≢◌, ◌↔◌, ℕ, suc, ◌+◌, ◌^◌, ◌≤◌, Bool, true, false, IsTrue, if◌then◌else◌, List, [], ◌∷◌, ◌++◌, length, take, Option, Some, None}
 use Rattle.sx_desk.specs.Desk.{Seen, bytes_of}
 use Rattle.sx_desk.specs.declared.desk.Out.TheVariants as out
 use Rattle.sx_reading.specs.Frame.{Frame}
-use Rattle.sx_reading.specs.Headline.{WrittenFor, OutcomeFor, IsMeaning, Marked, HasMark, Transforms, TookWhole}
+use Rattle.sx_reading.specs.Transforming.{WrittenFor, OutcomeFor, IsMeaning, Marked, HasMark, Transforms, Left}
 use Rattle.sx_reading.specs.declared.status.Status.{Status}
 use Rattle.sx_reading.specs.declared.status.Status.TheVariants as status
 
@@ -16,7 +16,7 @@ module _ (written : WrittenFor) (outcome : OutcomeFor) where
   pub record ShownMid (file : ℕ) (start now : Seen) (ended : Bool) (w : List ℕ) : Type 0 where
     pub bytes : now.written out.Result ≡ start.written out.Result ++ w
     pub marks : (added : List (ℕ × ℕ)) × Marked written outcome (bytes_of start file) (start.written_length out.Result) w (start.marks file) (now.marks file) added
-        (if ended then suc (now.taken file) else now.taken file)
+        (now.taken file) (if ended then suc (now.taken file) else now.taken file)
         × (IsTrue ended ↔ HasMark (length (bytes_of start file)) added)
 
   -- these bytes were written so far
@@ -40,10 +40,10 @@ module _ (written : WrittenFor) (outcome : OutcomeFor) where
     pub within : length b ≤ 2 ^ 40
 
   module _ (Stands : List ℕ → Bool → List ℕ → Type 0) (file : ℕ) (start now : Seen) where
-    -- the call ends with this status, and where it is Ok, the whole file was taken
+    -- the call ends with this status, and unless memory was wanting, the consumer is left as the status says
     pub record Stops (s : Status) : Type 0 where
       pub transforms : Transforms written outcome file start now s
-      pub whole : s ≡ status.Ok → TookWhole Stands written outcome file start now
+      pub left : s ≢ status.OutOfMemory → Left written outcome Stands file start now s
 
     -- after writing: the loop goes on, or there is an outcome or a fault
     abbrev pub AfterFlush : List ℕ → Bool → Option Status → Type 0

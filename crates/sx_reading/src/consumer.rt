@@ -1,6 +1,6 @@
 // What the reading loop needs of what it feeds.
 ghost use Rattle.std.specs.Prelude.{◌≡◌, List, ℕ, Bool, true, false, ◌++◌, OnOk};
-ghost use Rattle.sx_reading.specs.Headline.{WrittenFor, OutcomeFor, IsMeaning, status_of};
+ghost use Rattle.sx_reading.specs.Transforming.{WrittenFor, OutcomeFor, IsMeaning, status_of};
 
 use crate::{Input, Status};
 use std::alloc::AllocError;

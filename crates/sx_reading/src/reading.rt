@@ -1,9 +1,9 @@
 // The reading loop: before each read all that can be written is written.
-ghost use Rattle.std.specs.Prelude.{◌≡◌, ◌<◌, ◌++◌, [], List, ℕ, Bool, false, IsTrue, OnOk, length};
+ghost use Rattle.std.specs.Prelude.{◌≡◌, ◌≢◌, ◌<◌, ◌≤◌, ◌++◌, [], List, ℕ, Bool, false, IsTrue, OnOk, length};
 ghost use Rattle.sx_desk.specs.Desk.{Seen};
 ghost use Rattle.sx_desk.specs.declared.desk.Out.TheVariants as out;
 ghost use Rattle.sx_reading.specs.Frame.{Frame};
-ghost use Rattle.sx_reading.specs.Headline.{WrittenFor, OutcomeFor, Transforms, TookWhole};
+ghost use Rattle.sx_reading.specs.Transforming.{WrittenFor, OutcomeFor, Transforms, Left, most_read};
 ghost use Rattle.sx_reading.specs.Turn.{Fed, Running, AfterFlush, AfterTurn, is_end};
 ghost use Rattle.sx_reading.specs.declared.status.Status.TheVariants as status;
 
@@ -60,6 +60,7 @@ fn take_turn<D: Desk, C: Consumer>(
     buffer: &mut [u8],
 ) -> Option<Status>
     requires room { 0 < length buffer.old }
+    requires small { length buffer.old ≤ most_read }
     requires given { file < length (D.seen desk.old).opened }
     ensures frame { Frame file out.Result (D.seen desk.old) (D.seen desk.new) }
     ensures after { (written : WrittenFor) (outcome : OutcomeFor) (start : Seen) (b : List ℕ)
@@ -82,13 +83,14 @@ fn take_turn<D: Desk, C: Consumer>(
 // Goes on until the bytes have an outcome or the desk fails.
 fn run<D: Desk, C: Consumer>(file: u32, desk: &mut D, consumer: &mut C, buffer: &mut [u8]) -> Status
     requires room { 0 < length buffer.old }
+    requires small { length buffer.old ≤ most_read }
     requires given { file < length (D.seen desk.old).opened }
     requires untouched { IsTrue (D.seen desk.old).told → (D.seen desk.old).taken file ≡ 0 }
     ensures frame { Frame file out.Result (D.seen desk.old) (D.seen desk.new) }
     ensures runs { (written : WrittenFor) (outcome : OutcomeFor) → C.stands consumer.old written outcome [] false []
         → Transforms written outcome file (D.seen desk.old) (D.seen desk.new) result }
-    ensures whole { (written : WrittenFor) (outcome : OutcomeFor) → C.stands consumer.old written outcome [] false [] → result ≡ status.Ok
-        → TookWhole (C.stands consumer.new written outcome) written outcome file (D.seen desk.old) (D.seen desk.new) }
+    ensures left { (written : WrittenFor) (outcome : OutcomeFor) → C.stands consumer.old written outcome [] false [] → result ≢ status.OutOfMemory
+        → Left written outcome (C.stands consumer.new written outcome) file (D.seen desk.old) (D.seen desk.new) result }
     ensures keeps { C.keeps consumer.old consumer.new }
 {
     match flush(desk, consumer) {
@@ -112,7 +114,8 @@ fn run<D: Desk, C: Consumer>(file: u32, desk: &mut D, consumer: &mut C, buffer: 
 }
 
 /// Runs a consumer on an opened file of which nothing was taken: feeds it the bytes as they are read, and writes to
-/// the result, before each read, all that it gives.
+/// the result, before each read, all that it gives. A read takes at most 65,536 bytes. Unless it answers `OutOfMemory`, the
+/// consumer stands for the bytes that were taken of the file.
 pub fn transfer<D: Desk, C: Consumer>(
     alloc: Global,
     file: u32,
@@ -124,8 +127,8 @@ pub fn transfer<D: Desk, C: Consumer>(
     ensures frame { Frame file out.Result (D.seen desk.old) (D.seen desk.new) }
     ensures runs { (written : WrittenFor) (outcome : OutcomeFor) → C.stands consumer.old written outcome [] false []
         → Transforms written outcome file (D.seen desk.old) (D.seen desk.new) result }
-    ensures whole { (written : WrittenFor) (outcome : OutcomeFor) → C.stands consumer.old written outcome [] false [] → result ≡ status.Ok
-        → TookWhole (C.stands consumer.new written outcome) written outcome file (D.seen desk.old) (D.seen desk.new) }
+    ensures left { (written : WrittenFor) (outcome : OutcomeFor) → C.stands consumer.old written outcome [] false [] → result ≢ status.OutOfMemory
+        → Left written outcome (C.stands consumer.new written outcome) file (D.seen desk.old) (D.seen desk.new) result }
     ensures keeps { C.keeps consumer.old consumer.new }
 {
     match vec![in alloc; 0u8; PIECE] {

@@ -1,24 +1,22 @@
 -- A stylesheet that was read is ready for a session, where it can be streamed.
-use Rattle.std.proofs.Common.{◌≡◌, ◌⊎◌, inl, inr, ℕ, ◌<◌, Bool, true, false, not, ◌&&◌, cond, List, [], ◌∷◌, length, Option, Some, None, IfSome, refl, ap, sym, ◌∙◌, subst}
+use Rattle.std.proofs.Common.{◌≡◌, ◌⊎◌, inl, inr, ℕ, Bool, true, false, not, ◌&&◌, cond, List, [], ◌∷◌, length, Option, Some, None, IfSome, refl, ap, sym, ◌∙◌, subst}
 use Rattle.sx_kinds.specs.declared.constructs.Construct.{Construct}
 use Rattle.sx_kinds.specs.declared.constructs.Instr.{Instr}
 use Rattle.sx_kinds.specs.declared.constructs.Instr.TheFolds.{fold-roll-Instr}
 use Rattle.sx_kinds.specs.declared.constructs.InstrForm.TheVariants as form
-use Rattle.sx_kinds.specs.declared.constructs.NamePattern.{NamePattern}
 use Rattle.sx_kinds.specs.declared.sheets.OnNoMatch.{OnNoMatch}
 use Rattle.sx_kinds.specs.declared.sheets.OnNoMatch.TheVariants as unmatched
 use Rattle.sx_kinds.specs.declared.sheets.Sheet.{Sheet}
-use Rattle.sx_kinds.specs.declared.sheets.Template.{Template}
 use Rattle.sx_tree.specs.declared.events.Label.{Label}
 use Rattle.sx_named.specs.Named.{named}
 use Rattle.sx_events.specs.Course.{Lined, events_of}
 use Rattle.sx_sheet.specs.declared.reading.LinedEvent.{LinedEvent}
-use Rattle.sx_sheet.specs.Numbers.{IsSheetOf, literal_with, text_with, apply_with, template_with, label_of}
+use Rattle.sx_sheet.specs.Numbers.{IsSheetOf, literal_with, text_with, apply_with, label_of}
 use Rattle.sx_sheet.specs.Syntax.{tokens_in}
 use Rattle.sx_sheet.specs.Tokens.{Token, LinedToken, token_of, is_blank, is_in_text, put_said, put_token, tokens_from, tokens_of}
 use Rattle.sx_sheet.proofs.Known.{AreBuilt, names_known}
 use Rattle.sx_sheet.proofs.Told.{IsTold, token_told}
-use Rattle.sx_machine.specs.Body.{Body, literal, words, apply, body_of, instr_in_front, layer, culprit, IsKnownBody, AreKnown}
+use Rattle.sx_machine.specs.Body.{Body, literal, words, apply, body_of, instr_in_front, layer, IsKnownBody, AreKnown}
 use Rattle.sx_machine.specs.Meaning.{IsReady, thin_mode}
 use Rattle.sx_machine.proofs.Rules.{joined_is}
 use Rattle.sx_top.specs.Loading.{said_by, said_in, IsAccepted}

@@ -1,5 +1,5 @@
 -- From the name of a stylesheet to the stylesheet.
-use Rattle.std.proofs.Common.{◌≡◌, inl, inr, ℕ, List, [], Option, Some, None, unwrap_or, IsSome, Result, Ok, Err, refl, ap, sym, ◌∙◌, subst}
+use Rattle.std.proofs.Common.{◌≡◌, inl, inr, ℕ, List, [], Option, Some, None, unwrap_or, IsSome, Result, Ok, Err, OnOk, refl, ap, sym, ◌∙◌, subst}
 use Rattle.sx_atoms.specs.declared.error_codes.Code.{Code}
 use Rattle.sx_atoms.specs.declared.error_codes.Code.TheVariants.{Xtse0010, Xtse3430}
 use Rattle.sx_desk.specs.Desk.{Seen, Opens}
@@ -11,7 +11,7 @@ use Rattle.sx_sheet.specs.Syntax.{BreaksOn}
 use Rattle.sx_sheet.specs.Tokens.{LinedToken, tokens_of}
 use Rattle.sx_desk.specs.declared.desk.Out.TheVariants as out
 use Rattle.sx_reading.specs.Frame.{Frame}
-use Rattle.sx_reading.specs.Headline.{nothing_written}
+use Rattle.sx_reading.specs.Transforming.{nothing_written}
 use Rattle.sx_reading.specs.Program.{IsQuiet}
 use Rattle.sx_reading.specs.declared.status.Status.{Status}
 use Rattle.sx_reading.specs.declared.status.Status.TheVariants as status
@@ -80,3 +80,8 @@ roaming_of names events bytes new sheet line are reads found = inr (
     culprit_is = found;
   },
 )
+
+-- what holds whatever the answer is holds after a success
+pub after_success : {A : Type 0} (r : Result Sheet Status) → A → OnOk r A
+after_success (Ok sheet) a = a
+after_success (Err s) a = tt

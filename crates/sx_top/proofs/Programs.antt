@@ -13,8 +13,8 @@ use Rattle.sx_limits.specs.Limits.{stated}
 use Rattle.sx_limits.specs.declared.limits.Limits.{Limits}
 use Rattle.sx_kinds.specs.declared.sheets.Sheet.{Sheet}
 use Rattle.sx_machine.specs.Meaning.{IsReady}
-use Rattle.sx_reading.specs.Headline.{nothing_written, Transforms}
-use Rattle.sx_reading.specs.Program.{Headline}
+use Rattle.sx_reading.specs.Transforming.{nothing_written, Transforms}
+use Rattle.sx_reading.specs.Headline.{Headline}
 use Rattle.sx_top.specs.Loading.{Loaded}
 use Rattle.sx_top.specs.Run.{run_written, run_outcome}
 use Rattle.sx_top.specs.Stylesheet.{sheet_outcome}
@@ -22,7 +22,7 @@ use Rattle.sx_top.proofs.Accepting.{accepted_ready}
 use Rattle.sx_top.specs.Copy.{copy_sheet, copy_written, copy_outcome}
 use Rattle.sx_top.specs.Commands.{Does, Runs, RunsSheet}
 use Rattle.sx_top.specs.Words.{Requested, copies, runs}
-use Rattle.sx_names.specs.Numbering.{NameTable}
+use Rattle.sx_names.specs.Numbering.{NameTable, IsDistinct}
 
 -- what touches no file and not the result leaves what a command does
 does_then : (a : Requested) (old mid new : Seen) (s : Status) → Does a old mid s → Untouched mid new → Does a old new s
@@ -93,3 +93,7 @@ quiet_then old mid new a b = record {
   written_length = λ t. b.written_length t ∙ a.written_length (b.known.told t);
   written = λ t h. b.written t h ∙ a.written (b.known.told t) (b.known.shown h);
 }
+
+-- no name is twice in a table without names
+pub none_twice : {names : NameTable} → names ≡ [] → IsDistinct names
+none_twice e = subst (λ (n : NameTable). IsDistinct n) (sym e) (λ i j x at other. absurd (cc))

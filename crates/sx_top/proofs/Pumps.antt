@@ -1,9 +1,8 @@
 -- A run over the events of bytes.
-use Rattle.std.proofs.Common.{◌≡◌, ◌≢◌, ℕ, zero, suc, Bool, true, false, not, ◌&&◌, List, [], ◌∷◌, ◌++◌, length, take, drop, slice_get, Option, Some, None, refl, ap, ap₂, sym, ◌∙◌, subst, append_assoc, append-nil, arith}
-use Rattle.std.proofs.lemmas.List.{take-append-drop, take_all}
+use Rattle.std.proofs.Common.{◌≡◌, ℕ, zero, suc, Bool, true, false, not, ◌&&◌, List, [], ◌∷◌, ◌++◌, length, take, drop, slice_get, Option, Some, None, refl, ap, ap₂, sym, ◌∙◌, subst, append_assoc, append-nil, arith}
+use Rattle.std.proofs.lemmas.List.{take-append-drop, take_all, drop_all}
 use Rattle.sx_atoms.specs.declared.error_codes.Code.{Code}
 use Rattle.sx_kinds.specs.declared.sheets.Sheet.{Sheet}
-use Rattle.sx_named.specs.Named.{ElementStart}
 use Rattle.sx_tree.specs.Tree.{TreeEvent, tree_of}
 use Rattle.sx_limits.specs.declared.faults.DocFault.{DocFault}
 use Rattle.sx_limits.specs.declared.limits.Limits.{Limits}
@@ -13,11 +12,12 @@ use Rattle.sx_machine.specs.Meaning.{IsReady}
 use Rattle.sx_machine.specs.Run.{Result, Ending, done, waits, stops, is_done}
 use Rattle.sx_machine.specs.Session.{state_of}
 use Rattle.sx_machine.specs.declared.session.Session.{Session}
+use Rattle.sx_machine.specs.declared.session.State.{State}
 use Rattle.sx_machine.specs.declared.session.State.TheVariants as state
 use Rattle.sx_reading.specs.declared.consumer.Outcome.{Outcome}
 use Rattle.sx_reading.specs.declared.consumer.Outcome.TheVariants as outcomes
 use Rattle.sx_top.specs.Run.{result_on, printed_result, written_of, broken_document, outcome_at, run_written, run_outcome}
-use Rattle.sx_top.specs.Runner.{RanAs, ended_by}
+use Rattle.sx_top.specs.Runner.{RanAs, RanTo, ended_by}
 use Rattle.sx_top.proofs.Comings.{Happenings, happened, events_may_come, closed_at_end}
 use Rattle.sx_top.proofs.Results.{waits_if_going, stopped_grown, result_grows, open_not_done}
 use Rattle.sx_names.specs.Numbering.{NameTable}
@@ -98,6 +98,18 @@ module _ (sheet : Sheet) (names : NameTable) (limits : Limits) (ready : IsReady 
       let closed : (tree_of front).is_open ≡ false = open_if (tree_of front).is_open (λ now_open. open_not_done sheet names limits ready.streamable front now_open e) in
       sym (append-nil front) ∙ ap (λ (x : Happenings). front ++ x) (sym (none_behind front (drop m all_events) closed (rest_comes m))) ∙ split_at m
 
+  -- and none is left
+  done_rest : (m : ℕ) → (on (take m all_events)).ending ≡ done → drop m all_events ≡ []
+  done_rest m e =
+      let front = take m all_events in
+      none_behind front (drop m all_events) (open_if (tree_of front).is_open (λ now_open. open_not_done sheet names limits ready.streamable front now_open e)) (rest_comes m)
+
+  -- a run that does not go on has left none, or stopped at an error
+  pub reached : (m : ℕ) (s : State) (g : Ending) (outcome : Option Outcome) → (on (take m all_events)).ending ≡ g → (s ≡ state.Going → ⊥) → s ≡ state_of g → outcome ≡ ended_by g → RanTo outcome s (drop m all_events)
+  reached m s waits outcome e n is out = absurd (n is)
+  reached m s (stops c) outcome e n is out = subst (λ (o : Option Outcome). RanTo o s (drop m all_events)) (sym out) is
+  reached m s done outcome e n is out = subst (λ (o : Option Outcome). RanTo o s (drop m all_events)) (sym out) (done_rest m e)
+
   done_closed : (on all_events).ending ≡ done → is_open_at_end ≡ false
   done_closed e = open_if is_open_at_end (λ now_open. open_not_done sheet names limits ready.streamable all_events now_open e)
 
@@ -165,6 +177,10 @@ module _ (sheet : Sheet) (names : NameTable) (limits : Limits) (ready : IsReady 
     all_written : w ++ due ≡ run_written sheet names limits b ended
     all_written =
         ran.written ∙ sym (not_done_written (on (take m all_events)) is_open_at_end (ap is_done waiting)) ∙ ap (λ (x : Result). written_of x is_open_at_end) all_same
+
+    -- and none is left
+    pub none_left : drop m all_events ≡ []
+    none_left = drop_all m all_events (omega (arith, count))
 
     -- a run that goes on has no outcome
     pub going_outcome : outcome ≡ None

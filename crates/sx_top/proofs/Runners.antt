@@ -1,8 +1,8 @@
 -- What a runner stands for.
-use Rattle.std.proofs.Common.{◌≡◌, ◌≢◌, ℕ, zero, suc, nat_lt, ◌^◌, ◌≤◌, Bool, true, false, List, [], ◌∷◌, ◌++◌, length, take, drop, slice_get, get_or, ◌+◌, ◌<◌, Option, Some, None, is_some, Ok, Err, refl, ap, ap₂, sym, ◌∙◌, subst, append-nil, arith}
-use Rattle.std.proofs.lemmas.Bool.{le-ltb}
+use Rattle.std.proofs.Common.{◌≡◌, ◌≢◌, ℕ, zero, suc, nat_lt, ◌^◌, ◌≤◌, Bool, true, false, List, [], ◌∷◌, ◌++◌, length, take, drop, slice_get, get_or, ◌+◌, ◌<◌, Option, Some, None, is_some, Ok, Err, refl, ap, ap₂, sym, ◌∙◌, subst, append_assoc, append-nil, arith}
+use Rattle.std.proofs.lemmas.Bool.{le-ltb, false≢true}
 use Rattle.std.proofs.lemmas.Option.{slice_get_read}
-use Rattle.std.proofs.lemmas.List.{take_all, take_at}
+use Rattle.std.proofs.lemmas.List.{take_all, take_at, take-append-drop}
 use Rattle.sx_kinds.specs.declared.sheets.Sheet.{Sheet}
 use Rattle.sx_lines.specs.declared.events.Built.{Built}
 use Rattle.sx_lines.specs.Print.{printed, is_text_event, print_all, ends_in_text}
@@ -10,9 +10,9 @@ use Rattle.sx_lines.proofs.Printed.{print_all-append, ends_in_text-append}
 use Rattle.sx_names.specs.Numbering.{NameTable, IsDistinct, KeepsPlaces}
 use Rattle.sx_names.proofs.Places.{KeepsPlaces-refl, KeepsPlaces-trans}
 use Rattle.sx_tree.specs.declared.events.Event.{Event}
-use Rattle.sx_named.specs.Named.{ElementStart, named, IsKnown}
-use Rattle.sx_tree.specs.Tree.{TreeEvent, tree_of}
-use Rattle.sx_events.specs.Course.{Lined, events_of, break_of, whats}
+use Rattle.sx_named.specs.Named.{named, named_in_tree, IsKnown}
+use Rattle.sx_tree.specs.Tree.{tree_of}
+use Rattle.sx_events.specs.Course.{events_of, break_of, whats}
 use Rattle.sx_events.specs.Reader as reader
 use Rattle.sx_limits.specs.declared.faults.DocFault.{DocFault}
 use Rattle.sx_limits.specs.declared.limits.Limits.{Limits}
@@ -23,16 +23,17 @@ use Rattle.sx_machine.specs.Run.{Ending, done, waits, stops, is_done}
 use Rattle.sx_machine.specs.Session as session
 use Rattle.sx_machine.specs.Session.{state_of}
 use Rattle.sx_machine.specs.declared.session.Session.{Session}
+use Rattle.sx_machine.specs.declared.session.State.{State}
 use Rattle.sx_machine.specs.declared.session.State.TheVariants as state
-use Rattle.sx_reading.specs.Headline.{WrittenFor, OutcomeFor, IsMeaning}
+use Rattle.sx_reading.specs.Transforming.{WrittenFor, OutcomeFor, IsMeaning}
 use Rattle.sx_reading.specs.declared.consumer.Outcome.{Outcome}
 use Rattle.sx_reading.specs.declared.consumer.Outcome.TheVariants as outcomes
-use Rattle.sx_top.specs.Run.{printed_result, written_of, outcome_at, result_on, written_for_events, broken_document, run_written, run_outcome}
-use Rattle.sx_top.specs.Runner.{RanAs, Ran, ended_in, ended_by, Fed, RunnerStands, Runs}
+use Rattle.sx_top.specs.Run.{printed_result, written_of, outcome_at, result_on, written_for_events, broken_document, run_written}
+use Rattle.sx_top.specs.Runner.{Ran, RanTo, RunsTo, ended_in, ended_by, Fed, RunnerStands, Runs}
 use Rattle.sx_top.specs.declared.runner.Runner.{Runner}
-use Rattle.sx_top.proofs.Comings.{Happenings, happened, events_may_come, events_grow}
-use Rattle.sx_top.proofs.Pumps.{take_one, may_at, run_ended, run_waits, run_breaks}
-use Rattle.sx_top.proofs.Runs.{Stay, run_is_meaning, run_stays}
+use Rattle.sx_top.proofs.Comings.{Happenings, happened, count_events, in_tree_at, events_may_come, events_grow, events_stay}
+use Rattle.sx_top.proofs.Pumps.{take_one, may_at, reached, none_left, going_outcome, run_ended, run_waits, run_breaks}
+use Rattle.sx_top.proofs.Runs.{Stay, broken_by, run_done, run_is_meaning, run_stays}
 
 item_at : (events : List Built) (i : ℕ) (e : Built) → i < length events → e ≡ get_or events i e → slice_get events i ≡ Some e
 item_at events i e within is = slice_get_read events (length events) i e refl within is
@@ -53,11 +54,6 @@ text_next text events i e within is =
     ap (λ (n : ℕ). ends_in_text text (take n events)) next
     ∙ ap (ends_in_text text) (take_one events i e (item_at events i e within is))
     ∙ ends_in_text-append text (take i events) (e ∷ [])
-
--- as many things have happened as there are events
-pub count_whats : (ls : List Lined) → length (whats ls) ≡ length ls
-count_whats [] = refl
-count_whats (l ∷ ls) = ap suc (count_whats ls)
 
 -- ---- before all bytes
 
@@ -97,6 +93,17 @@ going_if_none done e = absurd (cc)
 going_if_none waits e = refl
 going_if_none (stops c) e = absurd (cc)
 
+first_reach : (s : State) → RanTo (ended_in s) s []
+first_reach state.Going = refl
+first_reach (state.Stopped c) = refl
+first_reach state.Closed = refl
+first_reach state.Spent = refl
+
+-- the same session at the same outcome
+runs_same : (sheet : Sheet) (names : NameTable) (limits : Limits) (s t : Session) (o p : Option Outcome) (hs : Happenings) → t ≡ s → p ≡ o → RunsTo sheet names limits s o hs → RunsTo sheet names limits t p hs
+runs_same sheet names limits s t o p hs session_is outcome runs =
+    subst (λ (x : Session). RunsTo sheet names limits x p hs) (sym session_is) (subst (λ (x : Option Outcome). RunsTo sheet names limits s x hs) (sym outcome) runs)
+
 -- a runner that was fed nothing
 pub fresh : (sheet : Sheet) (limits : Limits) (r : Runner) → limits.bytes ≤ 2 ^ 40 → IsReady sheet r.names → IsDistinct r.names → session.Stands sheet r.names limits.invocations r.session [] 0
     → reader.EventsStand r.reader limits r.names [] false 0 → r.due.items ≡ [] → r.after_text ≡ false → r.outcome ≡ ended_in r.session.state → RunnerStands sheet r.names limits r [] false []
@@ -110,6 +117,13 @@ fresh sheet limits r most ready distinct stands reads due text outcome =
       written = due ∙ sym (nothing_first sheet r.names k) ∙ ap (λ (p : Happenings). written_for_events sheet r.names limits p) (sym (no_events limits));
       outcome = ended ∙ outcome_first sheet r.names k
           ∙ ap₂ (λ (p : Happenings) (f : Option DocFault). outcome_at (result_on sheet r.names limits p).ending f (tree_of p).is_open) (sym (no_events limits)) (sym (no_break limits));
+      runs = record {
+        front = [];
+        rest = [];
+        parts = sym (no_events limits);
+        stands = subst (λ (n : ℕ). session.Stands sheet r.names k r.session [] n) (sym (ap length (built_first sheet r.names k))) stands;
+        reach = subst (λ (o : Option Outcome). RanTo o r.session.state []) (sym outcome) (first_reach r.session.state);
+      };
       fed = λ none. record {
         distinct = distinct;
         keeps = KeepsPlaces-refl r.names;
@@ -123,7 +137,7 @@ fresh sheet limits r most ready distinct stands reads due text outcome =
         };
         going = stands.state_is ∙ going_if_none first.ending (sym ended ∙ none);
       };
-      all = λ none. sym (sym (count_whats (events_of limits [] false)) ∙ ap length (no_events limits));
+      all = λ none. sym (sym (count_events (events_of limits [] false)) ∙ ap length (no_events limits));
     }
 
 -- a runner whose output was taken
@@ -138,6 +152,7 @@ cleared sheet names limits old new b w ended s reader_is session_is names_is due
       bounded = s.bounded;
       written = nothing;
       outcome = outcome ∙ s.outcome;
+      runs = runs_same sheet names limits old.session new.session old.outcome new.outcome (happened limits b ended) session_is outcome s.runs;
       fed = λ none.
           let f = s.fed (sym outcome ∙ none) in
           let p = take f.given (happened limits b ended) in
@@ -210,17 +225,36 @@ module _ (sheet : Sheet) (known : NameTable) (limits : Limits) (b w : List ℕ) 
         outcome_is = outcome ∙ ran.outcome_is;
       }
 
+  -- all events were run
+  runs_all : (count : f.given ≡ length all_events) (s : Session) (o : Option Outcome) → s ≡ old.session → RanTo o s.state (drop f.given all_events) → RunsTo sheet known limits s o all_events
+  runs_all count s o session_is reach =
+      let p = take f.given all_events in
+      record {
+        front = p;
+        rest = drop f.given all_events;
+        parts = take-append-drop f.given all_events;
+        stands = subst (λ (x : Session). session.Stands sheet known limits.invocations x p (length (result_on sheet known limits p).built)) (sym session_is) f.ran.stands;
+        reach = reach;
+      }
+
+  -- none is left
+  left_none : (count : f.given ≡ length all_events) → drop f.given all_events ≡ []
+  left_none count = none_left sheet known limits ready b ended f.given old.session old.due.items old.after_text old.outcome w f.ran f.going count
+
   -- the reader waits for more
   pub after_none : (new : Runner) → Handed old.names new.names → new.session ≡ old.session → new.due.items ≡ old.due.items → new.after_text ≡ old.after_text → new.outcome ≡ old.outcome
       → reader.Gives limits new.names b ended f.given new.reader None → RunnerStands sheet known limits new b ended w
   after_none new h session_is due text outcome gives =
-      let count = gives.0 ∙ sym (count_whats (events_of limits b ended)) in
+      let count = gives.0 ∙ sym (count_events (events_of limits b ended)) in
       let ends = run_waits sheet known limits ready b ended f.given old.session old.due.items old.after_text old.outcome w f.ran f.going count gives.1 in
       record {
         ready = ready;
         bounded = most;
         written = ap (λ (x : List ℕ). w ++ x) due ∙ ends.written;
         outcome = outcome ∙ ends.outcome_is;
+        runs = runs_all count new.session new.outcome session_is
+            (subst (λ (o : Option Outcome). RanTo o new.session.state (drop f.given all_events))
+            (sym (outcome ∙ going_outcome sheet known limits ready b ended f.given old.session old.due.items old.after_text old.outcome w f.ran f.going count)) (left_none count));
         fed = λ none. record {
           distinct = h.distinct f.distinct;
           keeps = known_kept new.names h;
@@ -233,16 +267,17 @@ module _ (sheet : Sheet) (known : NameTable) (limits : Limits) (b w : List ℕ) 
       }
 
   -- the document is broken off
-  pub after_fault : (new : Runner) (x : DocFault) → new.due.items ≡ old.due.items → new.outcome ≡ Some (broken_document x)
+  pub after_fault : (new : Runner) (x : DocFault) → new.session ≡ old.session → new.due.items ≡ old.due.items → new.outcome ≡ Some (broken_document x)
       → reader.Gives limits new.names b ended f.given new.reader (Some (Err x)) → RunnerStands sheet known limits new b ended w
-  after_fault new x due outcome gives =
-      let count = gives.0 ∙ sym (count_whats (events_of limits b ended)) in
+  after_fault new x session_is due outcome gives =
+      let count = gives.0 ∙ sym (count_events (events_of limits b ended)) in
       let ends = run_breaks sheet known limits ready b ended f.given old.session old.due.items old.after_text old.outcome w f.ran f.going count x gives.1 in
       record {
         ready = ready;
         bounded = most;
         written = ap (λ (v : List ℕ). w ++ v) due ∙ ends.written;
         outcome = outcome ∙ ends.outcome_is;
+        runs = runs_all count new.session new.outcome session_is (subst (λ (o : Option Outcome). RanTo o new.session.state (drop f.given all_events)) (sym outcome) (left_none count));
         fed = λ none. absurd (broken (sym outcome ∙ none));
         all = λ none. absurd (broken (sym outcome ∙ none));
       }
@@ -252,13 +287,16 @@ module _ (sheet : Sheet) (known : NameTable) (limits : Limits) (b w : List ℕ) 
 
   module _ (new : Runner) (names : NameTable) (given : EventReader) (e : Event) (h : Handed old.names names) (names_are : new.names ≡ names)
       (gives : reader.Gives limits names b ended f.given given (Some (Ok e)))
-      (ran : (p : Happenings) → KeepsPlaces known names → IsDistinct names → IsKnown names e → MayCome p (named names e) → Ran sheet known limits old p w → Ran sheet known limits new (p ++ named names e ∷ []) w) where
-    taken_one : take (suc f.given) all_events ≡ take f.given all_events ++ named names e ∷ []
-    taken_one = take_one all_events f.given (named names e) gives.0
+      (ran : (p : Happenings) → KeepsPlaces known names → IsDistinct names → IsKnown names e → MayCome p (named_in_tree names e) → Ran sheet known limits old p w → Ran sheet known limits new (p ++ named_in_tree names e ∷ []) w) where
+    found : slice_get all_events f.given ≡ Some (named_in_tree names e)
+    found = in_tree_at (whats (events_of limits b ended)) f.given (named names e) gives.0
+
+    taken_one : take (suc f.given) all_events ≡ take f.given all_events ++ named_in_tree names e ∷ []
+    taken_one = take_one all_events f.given (named_in_tree names e) found
 
     ran_event : Ran sheet known limits new (take (suc f.given) all_events) w
     ran_event = subst (λ (p : Happenings). Ran sheet known limits new p w) (sym taken_one)
-        (ran (take f.given all_events) (known_kept names h) (h.distinct f.distinct) gives.1 (may_at [] all_events f.given (named names e) (events_may_come limits b ended) gives.0) f.ran)
+        (ran (take f.given all_events) (known_kept names h) (h.distinct f.distinct) gives.1 (may_at [] all_events f.given (named_in_tree names e) (events_may_come limits b ended) found) f.ran)
 
     -- an event was run, and the run goes on
     pub after_event : new.reader ≡ given → new.session.state ≡ state.Going → Fed sheet known limits new b ended w
@@ -283,11 +321,27 @@ module _ (sheet : Sheet) (known : NameTable) (limits : Limits) (b w : List ℕ) 
           bounded = most;
           written = ends.written;
           outcome = ends.outcome_is;
+          runs = record {
+            front = take (suc f.given) all_events;
+            rest = drop (suc f.given) all_events;
+            parts = take-append-drop (suc f.given) all_events;
+            stands = ran_event.stands;
+            reach = reached sheet known limits ready b ended (suc f.given) new.session.state (result_on sheet known limits (take (suc f.given) all_events)).ending new.outcome refl stopped
+                ran_event.stands.state_is ran_event.outcome_is;
+          };
           fed = λ none. absurd (some none);
           all = λ none. absurd (some none);
         }
 
 -- ---- more bytes
+
+-- what has happened by more bytes: more than before, and no more behind a break
+pub record Behind (limits : Limits) (b c : List ℕ) (ended : Bool) : Type 0 where
+  pub grow : (rest : Happenings) × (happened limits c ended ≡ happened limits b false ++ rest)
+  pub stays : (f : DocFault) → break_of limits b false ≡ Some f → happened limits c ended ≡ happened limits b false
+
+behind_of : (limits : Limits) (b d : List ℕ) (ended : Bool) → Behind limits b (b ++ d) ended
+behind_of limits b d ended = record { grow = events_grow limits b d ended; stays = λ f is. (events_stay limits b d ended f is).0 }
 
 take_front : {X : Type 0} (n : ℕ) (xs ys : List X) → n ≡ length xs → take n (xs ++ ys) ≡ take n xs
 take_front n xs ys count = take_at xs ys n (sym count) ∙ sym (ap (λ (k : ℕ). take k xs) count ∙ take_all (length xs) xs (omega arith))
@@ -301,7 +355,7 @@ module _ (sheet : Sheet) (known : NameTable) (limits : Limits) (old : Runner) (b
       let f = s.fed none in
       let n = f.given in
       let front : take n (happened limits c ended) ≡ take n (happened limits b false) =
-      ap (take n) grow.1 ∙ take_front n (happened limits b false) grow.0 (s.all none ∙ sym (count_whats (events_of limits b false))) in
+      ap (take n) grow.1 ∙ take_front n (happened limits b false) grow.0 (s.all none ∙ sym (count_events (events_of limits b false))) in
       record {
         distinct = subst (λ (x : NameTable). IsDistinct x) (sym names_are) f.distinct;
         keeps = subst (λ (x : NameTable). KeepsPlaces known x) (sym names_are) f.keeps;
@@ -312,24 +366,42 @@ module _ (sheet : Sheet) (known : NameTable) (limits : Limits) (old : Runner) (b
         going = ap (λ (x : Session). x.state) session_is ∙ f.going;
       }
 
+  -- the session behind an outcome
+  runs_stay : (c : List ℕ) (ended : Bool) (o : Option Outcome) → Behind limits b c ended → old.outcome ≡ o → o ≢ None → RunsTo sheet known limits old.session old.outcome (happened limits c ended)
+  runs_stay c ended None behind e some = absurd (some refl)
+  runs_stay c ended (Some outcomes.Done) behind e some = absurd (false≢true (run_done sheet known limits s.ready.streamable b false (sym s.outcome ∙ e)))
+  runs_stay c ended (Some (outcomes.Dynamic code)) behind e some = record {
+    front = s.runs.front;
+    rest = s.runs.rest ++ behind.grow.0;
+    parts = sym (append_assoc s.runs.front s.runs.rest behind.grow.0) ∙ ap (λ (x : Happenings). x ++ behind.grow.0) s.runs.parts ∙ sym behind.grow.1;
+    stands = s.runs.stands;
+    reach = subst (λ (x : Option Outcome). RanTo x old.session.state (s.runs.rest ++ behind.grow.0)) (sym e)
+        (subst (λ (x : Option Outcome). RanTo x old.session.state s.runs.rest) e s.runs.reach);
+  }
+  runs_stay c ended (Some (outcomes.Broken i f)) behind e some =
+      let p = happened limits b false in
+      let broken = broken_by (result_on sheet known limits p).ending (break_of limits b false) (tree_of p).is_open i f (sym s.outcome ∙ e) in
+      subst (λ (x : Happenings). RunsTo sheet known limits old.session old.outcome x) (sym (behind.stays broken.0 broken.1)) s.runs
+
   -- behind an outcome nothing changes
-  pub stands_stay : (c : List ℕ) (ended : Bool) → Stay sheet known limits s.ready.streamable b c ended → old.outcome ≢ None → RunnerStands sheet known limits old c ended w
-  stands_stay c ended stay some = record {
+  pub stands_stay : (c : List ℕ) (ended : Bool) → Behind limits b c ended → Stay sheet known limits s.ready.streamable b c ended → old.outcome ≢ None → RunnerStands sheet known limits old c ended w
+  stands_stay c ended behind stay some = record {
     ready = s.ready;
     bounded = s.bounded;
     written = s.written ∙ sym stay.written;
     outcome = s.outcome ∙ sym stay.outcome;
+    runs = runs_stay c ended old.outcome behind refl some;
     fed = λ none. absurd (some none);
     all = λ none. absurd (some none);
   }
 
   pub more_dropped : (d : List ℕ) → old.outcome ≢ None → RunnerStands sheet known limits old (b ++ d) false w
-  more_dropped d some = stands_stay (b ++ d) false (run_stays sheet known limits s.ready.streamable b d false (λ none. some (s.outcome ∙ none))) some
+  more_dropped d some = stands_stay (b ++ d) false (behind_of limits b d false) (run_stays sheet known limits s.ready.streamable b d false (λ none. some (s.outcome ∙ none))) some
 
   pub end_dropped : old.outcome ≢ None → RunnerStands sheet known limits old b true w
   end_dropped some =
       subst (λ (c : List ℕ). RunnerStands sheet known limits old c true w) (append-nil b)
-      (stands_stay (b ++ []) true (run_stays sheet known limits s.ready.streamable b [] true (λ none. some (s.outcome ∙ none))) some)
+      (stands_stay (b ++ []) true (behind_of limits b [] true) (run_stays sheet known limits s.ready.streamable b [] true (λ none. some (s.outcome ∙ none))) some)
 
 pub end_grows : (limits : Limits) (b : List ℕ) → (rest : Happenings) × (happened limits b true ≡ happened limits b false ++ rest)
 end_grows limits b = let g = events_grow limits b [] true in (g.0, ap (λ (c : List ℕ). happened limits c true) (sym (append-nil b)) ∙ g.1)

@@ -1,11 +1,11 @@
 -- One event more of a run.
-use Rattle.std.proofs.Common.{◌≡◌, ◌≢◌, ℕ, Bool, true, false, List, [], ◌∷◌, ◌++◌, length, drop, Option, Some, None, refl, ap, ap₂, sym, ◌∙◌, subst, append_assoc, append-nil}
+use Rattle.std.proofs.Common.{◌≡◌, ℕ, Bool, true, false, List, [], ◌∷◌, ◌++◌, length, drop, Option, Some, None, refl, ap, ap₂, sym, ◌∙◌, subst, append_assoc, append-nil}
 use Rattle.sx_atoms.specs.declared.error_codes.Code.{Code}
 use Rattle.sx_kinds.specs.declared.sheets.Sheet.{Sheet}
 use Rattle.sx_lines.specs.declared.events.Built.{Built}
 use Rattle.sx_lines.specs.Print.{print_all, ends_in_text, ending_of}
 use Rattle.sx_lines.proofs.Printed.{print_all-append, ends_in_text-append}
-use Rattle.sx_named.specs.Named.{ElementStart}
+use Rattle.sx_named.specs.Named.{NamedElement}
 use Rattle.sx_tree.specs.Tree.{TreeEvent}
 use Rattle.sx_limits.specs.declared.limits.Limits.{Limits}
 use Rattle.sx_machine.specs.Growth.{IsGrown, MayCome}
@@ -49,15 +49,15 @@ module _ (sheet : Sheet) (names : NameTable) (limits : Limits) (ready : IsReady 
   on = result_on sheet names limits
 
   -- the result of one event more
-  pub one_more : (p : Happenings) (h : TreeEvent ElementStart) → MayCome p h → IsGrown (on p) (on (p ++ h ∷ []))
+  pub one_more : (p : Happenings) (h : TreeEvent NamedElement) → MayCome p h → IsGrown (on p) (on (p ++ h ∷ []))
   one_more p h may = result_grows sheet names limits ready.streamable p (h ∷ []) (may, tt)
 
   -- before an event the result is not done
-  pub before_event : (p : Happenings) (h : TreeEvent ElementStart) → MayCome p h → is_done (on p).ending ≡ false
+  pub before_event : (p : Happenings) (h : TreeEvent NamedElement) → MayCome p h → is_done (on p).ending ≡ false
   before_event p h may = not_done (on p).ending (open_not_done sheet names limits ready.streamable p may.not_closed)
 
   -- the built events of one event more
-  pub built_more : (p : Happenings) (h : TreeEvent ElementStart) → MayCome p h → (on (p ++ h ∷ [])).built ≡ (on p).built ++ drop (length (on p).built) (on (p ++ h ∷ [])).built
+  pub built_more : (p : Happenings) (h : TreeEvent NamedElement) → MayCome p h → (on (p ++ h ∷ [])).built ≡ (on p).built ++ drop (length (on p).built) (on (p ++ h ∷ [])).built
   built_more p h may =
       let old = (on p).built in
       let g = built_grown (on p) (on (p ++ h ∷ [])) (one_more p h may) in
@@ -65,11 +65,11 @@ module _ (sheet : Sheet) (names : NameTable) (limits : Limits) (ready : IsReady 
 
   -- What was printed for one event more: what can be written for it where the result is not whole, and whether a text
   -- line is unfinished.
-  pub record PrintedMore (p : Happenings) (h : TreeEvent ElementStart) (due : List ℕ) (text : Bool) (w : List ℕ) : Type 0 where
+  pub record PrintedMore (p : Happenings) (h : TreeEvent NamedElement) (due : List ℕ) (text : Bool) (w : List ℕ) : Type 0 where
     pub written : w ++ due ≡ printed_result (on (p ++ h ∷ [])).built false
     pub text_is : text ≡ ends_in_text false (on (p ++ h ∷ [])).built
 
-  pub printed_one : (s : Session) (due : List ℕ) (text : Bool) (outcome : Option Outcome) (p : Happenings) (h : TreeEvent ElementStart) (w : List ℕ) → MayCome p h
+  pub printed_one : (s : Session) (due : List ℕ) (text : Bool) (outcome : Option Outcome) (p : Happenings) (h : TreeEvent NamedElement) (w : List ℕ) → MayCome p h
       → RanAs sheet names limits s due text outcome p w → (output : List Built) → output ≡ drop (length (on p).built) (on (p ++ h ∷ [])).built
       → (new_due : List ℕ) (new_text : Bool) → new_due ≡ due ++ print_all text output → new_text ≡ ends_in_text text output
       → PrintedMore p h new_due new_text w
@@ -135,7 +135,7 @@ waited old new (stops c) e grown w = absurd (stops_waits (sym e ∙ ap (λ (r : 
     stops_waits p = cc
 
 module _ (sheet : Sheet) (known : NameTable) (limits : Limits) (ready : IsReady sheet known) (was : Session) (was_due : List ℕ) (was_text : Bool) (outcome : Option Outcome)
-    (p : Happenings) (h : TreeEvent ElementStart) (w : List ℕ) (s : Session) (output : List Built) (due : List ℕ) (text : Bool)
+    (p : Happenings) (h : TreeEvent NamedElement) (w : List ℕ) (s : Session) (output : List Built) (due : List ℕ) (text : Bool)
     (may : MayCome p h) (ran : RanAs sheet known limits was was_due was_text outcome p w)
     (stands : session.Stands sheet known limits.invocations s (p ++ h ∷ []) (length (result_on sheet known limits (p ++ h ∷ [])).built))
     (output_is : output ≡ drop (length (result_on sheet known limits p).built) (result_on sheet known limits (p ++ h ∷ [])).built)

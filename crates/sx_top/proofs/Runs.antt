@@ -1,5 +1,5 @@
 -- What is written for a run, as more bytes come.
-use Rattle.std.proofs.Common.{◌≡◌, ◌≢◌, ◌⊎◌, inl, inr, ℕ, ◌^◌, ◌<◌, ◌≤◌, Bool, true, false, not, ◌&&◌, cond, List, [], ◌∷◌, ◌++◌, length, Option, Some, None, refl, ap, ap₂, sym, ◌∙◌, subst, append_assoc, append-nil, arith}
+use Rattle.std.proofs.Common.{◌≡◌, ◌≢◌, ℕ, ◌^◌, ◌<◌, ◌≤◌, Bool, true, false, not, ◌&&◌, cond, List, [], ◌∷◌, ◌++◌, length, Option, Some, None, refl, ap, ap₂, sym, ◌∙◌, subst, append_assoc, append-nil, arith}
 use Rattle.sx_atoms.specs.declared.error_codes.Code.{Code}
 use Rattle.sx_kinds.specs.declared.sheets.Sheet.{Sheet}
 use Rattle.sx_lines.specs.declared.events.Built.{Built}
@@ -12,9 +12,10 @@ use Rattle.sx_events.specs.Course.{break_of}
 use Rattle.sx_machine.specs.Body.{culprit}
 use Rattle.sx_machine.specs.Growth.{IsGrown, MayAllCome}
 use Rattle.sx_machine.specs.Run.{Result, Ending, done, waits, stops, is_done}
-use Rattle.sx_reading.specs.Headline.{Grows, IsMeaning}
+use Rattle.sx_reading.specs.Transforming.{Grows, IsMeaning}
 use Rattle.sx_reading.specs.declared.consumer.Outcome.TheVariants as outcomes
-use Rattle.sx_top.specs.Run.{result_on, printed_result, written_of, written_for_events, outcome_at, outcome_done, run_written, run_outcome}
+use Rattle.sx_reading.specs.declared.status.Input.{Input}
+use Rattle.sx_top.specs.Run.{result_on, printed_result, written_of, written_for_events, outcome_at, run_written, run_outcome}
 use Rattle.sx_top.proofs.Comings.{Happenings, happened, events_may_come, events_grow, events_stay, open_so_far, closed_at_end, broken_beyond, ended_closed}
 use Rattle.sx_top.proofs.Results.{built_grown, stopped_grown, result_grows, open_not_done, closed_not_waiting}
 use Rattle.sx_names.specs.Numbering.{NameTable}
@@ -58,6 +59,15 @@ broken_at g None now_open n e = n refl
 broken_at done (Some f) now_open n e = cc
 broken_at waits (Some f) now_open n e = cc
 broken_at (stops c) (Some f) now_open n e = cc
+
+-- only a document that is broken off gives such an outcome
+pub broken_by : (g : Ending) (fault : Option DocFault) (now_open : Bool) (i : Input) (f : DocFault) → outcome_at g fault now_open ≡ Some (outcomes.Broken i f) → (x : DocFault) × (fault ≡ Some x)
+broken_by done (Some x) now_open i f e = (x, refl)
+broken_by done None true i f e = absurd (cc)
+broken_by done None false i f e = absurd (cc)
+broken_by waits (Some x) now_open i f e = (x, refl)
+broken_by waits None now_open i f e = absurd (cc)
+broken_by (stops c) fault now_open i f e = absurd (cc)
 
 settled_at : (g : Ending) (fault : Option DocFault) (now_open : Bool) → g ≢ waits → now_open ≡ false → outcome_at g fault now_open ≢ None
 settled_at done (Some f) now_open s o e = cc

@@ -1,10 +1,10 @@
 -- Reading a stylesheet's events.
-use Rattle.std.proofs.Common.{◌≡◌, ◌≢◌, ℕ, zero, suc, ◌^◌, ◌<◌, ◌≤◌, Bool, true, false, List, [], ◌∷◌, ◌++◌, length, take, slice_get, get_or, Option, Some, None, Ok, Err, refl, ap, ap₂, sym, ◌∙◌, subst, append-nil, arith}
+use Rattle.std.proofs.Common.{◌≡◌, ◌≢◌, ℕ, zero, suc, ◌^◌, ◌<◌, Bool, true, false, IsTrue, List, [], ◌∷◌, ◌++◌, length, take, slice_get, get_or, Option, Some, None, Ok, Err, refl, ap, ap₂, sym, ◌∙◌, subst, append-nil, arith}
 use Rattle.std.specs.Option.{option_map_or}
+use Rattle.std.proofs.lemmas.Bool.{false≢true}
 use Rattle.std.proofs.lemmas.List.{take_all, take_at, length-append}
 use Rattle.std.proofs.lemmas.Option.{slice_get_within, slice_get-get_or}
-use Rattle.sx_names.specs.Numbering.{NameTable, IsDistinct, KeepsPlaces, uri_at, local_at}
-use Rattle.sx_names.proofs.Places.{KeepsPlaces-refl, KeepsPlaces-trans}
+use Rattle.sx_names.specs.Numbering.{NameTable, IsDistinct, KeepsPlaces}
 use Rattle.sx_tree.specs.declared.events.Attr.{Attr}
 use Rattle.sx_tree.specs.declared.events.Label.{Label}
 use Rattle.sx_tree.specs.declared.events.Event.{Event}
@@ -17,7 +17,7 @@ use Rattle.sx_events.specs.Course.{Lined, events_of, break_of, whats, line_behin
 use Rattle.sx_events.specs.Reader as reader
 use Rattle.sx_sheet.specs.declared.reading.LinedEvent.{LinedEvent}
 use Rattle.sx_sheet.specs.Tokens.{AreKnown}
-use Rattle.sx_reading.specs.Headline.{WrittenFor, OutcomeFor, IsMeaning, nothing_written, whole_outcome}
+use Rattle.sx_reading.specs.Transforming.{WrittenFor, OutcomeFor, IsMeaning, nothing_written, whole_outcome}
 use Rattle.sx_reading.specs.declared.consumer.Outcome.{Outcome}
 use Rattle.sx_reading.specs.declared.consumer.Outcome.TheVariants as outcomes
 use Rattle.sx_reading.specs.declared.status.Input.TheVariants as input
@@ -295,6 +295,10 @@ all_events r b w done s =
       sound = (whole_done input.Sheet (break_of sheet_limits b true) true done).1;
       are = whole.0.events ∙ ap (λ (n : ℕ). take n (events_of sheet_limits b true)) whole.1 ∙ take_all (length (events_of sheet_limits b true)) (events_of sheet_limits b true) (omega arith);
     }
+
+pub events_left : (r : StylesheetReader) (b w : List ℕ) (ended : Bool) → IsTrue ended → sheet_outcome b ended ≡ Some outcomes.Done → StylesheetStands r b ended w → AreEvents r.names r.events b
+events_left r b w true h done s = all_events r b w done s
+events_left r b w false h done s = absurd (false≢true h)
 
 -- nothing is written
 pub output_is : (r : StylesheetReader) (written : WrittenFor) (outcome : OutcomeFor) (b w : List ℕ) (ended : Bool) → Meant r written outcome b ended w → w ++ [] ≡ written b ended

@@ -3,7 +3,8 @@ use Rattle.std.specs.Prelude.{◌≡◌, ◌⊎◌, ℕ, List, Option, Some, Non
 use Rattle.sx_desk.specs.Desk.{Seen}
 use Rattle.sx_kinds.specs.declared.sheets.Sheet.{Sheet}
 use Rattle.sx_limits.specs.Limits.{stated}
-use Rattle.sx_reading.specs.Program.{Headline, Untouched}
+use Rattle.sx_reading.specs.Headline.{Headline}
+use Rattle.sx_reading.specs.Program.{Untouched}
 use Rattle.sx_reading.specs.declared.status.Status.{Status}
 use Rattle.sx_reading.specs.declared.status.Status.TheVariants as status
 use Rattle.sx_top.specs.Loading.{Loaded, NotLoaded}

@@ -1,5 +1,5 @@
 -- Tables that keep their places, over any calls.
-use Rattle.std.proofs.Common.{ℕ, ◌<◌, List, [], length, refl, ◌∙◌}
+use Rattle.std.proofs.Common.{ℕ, ◌<◌, [], length, refl, ◌∙◌}
 use Rattle.std.proofs.lemmas.Option.{slice_get_within, slice_get-get_or}
 use Rattle.std.specs.Prelude.{get_or}
 use Rattle.sx_names.specs.Numbering.{NameTable, KeepsPlaces}

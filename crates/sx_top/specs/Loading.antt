@@ -9,10 +9,10 @@ use Rattle.sx_machine.specs.Body.{culprit}
 use Rattle.sx_sheet.specs.Numbers.{IsSheetOf}
 use Rattle.sx_sheet.specs.Syntax.{BreaksOn}
 use Rattle.sx_sheet.specs.Tokens.{LinedToken, token_of, put_said}
-use Rattle.sx_reading.specs.Program.{Headline}
+use Rattle.sx_reading.specs.Headline.{Headline}
 use Rattle.sx_reading.specs.declared.status.Status.{Status}
 use Rattle.sx_reading.specs.declared.status.Status.TheVariants as status
-use Rattle.sx_reading.specs.Headline.{nothing_written}
+use Rattle.sx_reading.specs.Transforming.{nothing_written}
 use Rattle.sx_top.specs.Stylesheet.{sheet_outcome, sheet_limits}
 use Rattle.sx_names.specs.Numbering.{NameTable}
 

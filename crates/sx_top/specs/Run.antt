@@ -3,7 +3,7 @@ use Rattle.std.specs.Prelude.{ℕ, Bool, false, not, ◌&&◌, List, [], ◌++�
 use Rattle.sx_kinds.specs.declared.sheets.Sheet.{Sheet}
 use Rattle.sx_lines.specs.declared.events.Built.{Built}
 use Rattle.sx_lines.specs.Print.{print_all, ends_in_text, ending_of}
-use Rattle.sx_named.specs.Named.{ElementStart}
+use Rattle.sx_named.specs.Named.{NamedElement, all_in_tree}
 use Rattle.sx_tree.specs.Tree.{TreeEvent, tree_of}
 use Rattle.sx_limits.specs.declared.faults.DocFault.{DocFault}
 use Rattle.sx_limits.specs.declared.limits.Limits.{Limits}
@@ -44,21 +44,25 @@ outcome_at (stops c) fault is_open = Some (outcomes.Dynamic c)
 outcome_at done fault is_open = outcome_done fault is_open
 outcome_at waits fault is_open = outcome_waiting fault
 
+-- what has happened by bytes, as a tree knows it
+abbrev pub happened : Limits → List ℕ → Bool → List (TreeEvent NamedElement)
+happened limits b ended = all_in_tree (whats (events_of limits b ended))
+
 module _ (sheet : Sheet) (names : NameTable) (limits : Limits) where
   -- the result on the open tree of what has happened, by the stylesheet and its table of names
-  abbrev pub result_on : List (TreeEvent ElementStart) → Result
+  abbrev pub result_on : List (TreeEvent NamedElement) → Result
   result_on p = result_for sheet names limits.invocations p
 
   -- what is written for what has happened
-  abbrev pub written_for_events : List (TreeEvent ElementStart) → List ℕ
+  abbrev pub written_for_events : List (TreeEvent NamedElement) → List ℕ
   written_for_events p = written_of (result_on p) (tree_of p).is_open
 
   -- what is written for bytes
   abbrev pub run_written : List ℕ → Bool → List ℕ
-  run_written b ended = written_for_events (whats (events_of limits b ended))
+  run_written b ended = written_for_events (happened limits b ended)
 
   -- where bytes end
   abbrev pub run_outcome : List ℕ → Bool → Option Outcome
   run_outcome b ended =
-      let p = whats (events_of limits b ended) in
+      let p = happened limits b ended in
       outcome_at (result_on p).ending (break_of limits b ended) (tree_of p).is_open

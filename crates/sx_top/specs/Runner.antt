@@ -3,10 +3,10 @@ use Rattle.std.specs.Prelude.{◌≡◌, ℕ, ◌^◌, ◌≤◌, Bool, false, L
 use Rattle.sx_kinds.specs.declared.sheets.Sheet.{Sheet}
 use Rattle.sx_names.specs.Numbering.{NameTable, IsDistinct, KeepsPlaces}
 use Rattle.sx_lines.specs.Print.{ends_in_text}
-use Rattle.sx_named.specs.Named.{ElementStart}
+use Rattle.sx_named.specs.Named.{NamedElement}
 use Rattle.sx_tree.specs.Tree.{TreeEvent}
 use Rattle.sx_limits.specs.declared.limits.Limits.{Limits}
-use Rattle.sx_events.specs.Course.{events_of, whats}
+use Rattle.sx_events.specs.Course.{events_of}
 use Rattle.sx_events.specs.Reader as reader
 use Rattle.sx_machine.specs.Meaning.{IsReady}
 use Rattle.sx_machine.specs.Run.{Ending, done, waits, stops, is_done}
@@ -14,10 +14,10 @@ use Rattle.sx_machine.specs.Session as session
 use Rattle.sx_machine.specs.declared.session.Session.{Session}
 use Rattle.sx_machine.specs.declared.session.State.{State}
 use Rattle.sx_machine.specs.declared.session.State.TheVariants as state
-use Rattle.sx_reading.specs.Headline.{WrittenFor, OutcomeFor}
+use Rattle.sx_reading.specs.Transforming.{WrittenFor, OutcomeFor}
 use Rattle.sx_reading.specs.declared.consumer.Outcome.{Outcome}
 use Rattle.sx_reading.specs.declared.consumer.Outcome.TheVariants as outcomes
-use Rattle.sx_top.specs.Run.{printed_result, result_on, run_written, run_outcome}
+use Rattle.sx_top.specs.Run.{happened, printed_result, result_on, run_written, run_outcome}
 use Rattle.sx_top.specs.declared.runner.Runner.{Runner}
 
 -- where a run ends whose session is in this state
@@ -33,15 +33,30 @@ ended_by done = Some outcomes.Done
 ended_by waits = None
 ended_by (stops c) = Some (outcomes.Dynamic c)
 
+-- What an outcome says of the events that a run has left, and of its state: it has left none, or it stopped at an error.
+abbrev pub RanTo : Option Outcome → State → List (TreeEvent NamedElement) → Type 0
+RanTo None s rest = rest ≡ []
+RanTo (Some outcomes.Done) s rest = rest ≡ []
+RanTo (Some (outcomes.Broken i f)) s rest = rest ≡ []
+RanTo (Some (outcomes.Dynamic c)) s rest = s ≡ state.Stopped c
+
 module _ (sheet : Sheet) (names : NameTable) (limits : Limits) where
+  -- The session stands for a front of what has happened, for all of it unless it stopped at an error.
+  pub record RunsTo (s : Session) (outcome : Option Outcome) (all : List (TreeEvent NamedElement)) : Type 0 where
+    pub front : List (TreeEvent NamedElement)
+    pub rest : List (TreeEvent NamedElement)
+    pub parts : front ++ rest ≡ all
+    pub stands : session.Stands sheet names limits.invocations s front (length (result_on sheet names limits front).built)
+    pub reach : RanTo outcome s.state rest
+
   -- This has happened and was run, w of what can be written for it was taken, and the rest of it is due.
-  pub record RanAs (s : Session) (due : List ℕ) (after_text : Bool) (outcome : Option Outcome) (p : List (TreeEvent ElementStart)) (w : List ℕ) : Type 0 where
+  pub record RanAs (s : Session) (due : List ℕ) (after_text : Bool) (outcome : Option Outcome) (p : List (TreeEvent NamedElement)) (w : List ℕ) : Type 0 where
     pub stands : session.Stands sheet names limits.invocations s p (length (result_on sheet names limits p).built)
     pub written : w ++ due ≡ printed_result (result_on sheet names limits p).built (is_done (result_on sheet names limits p).ending)
     pub text : after_text ≡ ends_in_text false (result_on sheet names limits p).built
     pub outcome_is : outcome ≡ ended_by (result_on sheet names limits p).ending
 
-  abbrev pub Ran : Runner → List (TreeEvent ElementStart) → List ℕ → Type 0
+  abbrev pub Ran : Runner → List (TreeEvent NamedElement) → List ℕ → Type 0
   Ran r p w = RanAs r.session r.due.items r.after_text r.outcome p w
 
   -- So many of the events of the bytes were given by the reader and run, and the session goes on.
@@ -50,7 +65,7 @@ module _ (sheet : Sheet) (names : NameTable) (limits : Limits) where
     pub keeps : KeepsPlaces names r.names
     pub given : ℕ
     pub reads : reader.EventsStand r.reader limits r.names b ended given
-    pub ran : Ran r (take given (whats (events_of limits b ended))) w
+    pub ran : Ran r (take given (happened limits b ended)) w
     pub going : r.session.state ≡ state.Going
 
   -- The runner was fed these bytes, it was or was not told of the end, and w of what can be written was taken.
@@ -59,6 +74,7 @@ module _ (sheet : Sheet) (names : NameTable) (limits : Limits) where
     pub bounded : limits.bytes ≤ 2 ^ 40
     pub written : w ++ r.due.items ≡ run_written sheet names limits b ended
     pub outcome : r.outcome ≡ run_outcome sheet names limits b ended
+    pub runs : RunsTo r.session r.outcome (happened limits b ended)
     pub fed : r.outcome ≡ None → Fed r b ended w
     pub all : (none : r.outcome ≡ None) → (fed none).given ≡ length (events_of limits b ended)
 

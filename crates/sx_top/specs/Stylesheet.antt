@@ -1,23 +1,18 @@
 -- Reading a stylesheet: nothing is written for its bytes, and they end whole or are broken off.
-use Rattle.std.specs.Prelude.{◌≡◌, ◌≢◌, ℕ, ◌^◌, Bool, true, IsTrue, List, [], ◌∷◌, length, take, Option, Some, None, if◌then◌else◌, Result, Ok, Err, IfOk}
+use Rattle.std.specs.Prelude.{◌≡◌, ℕ, Bool, true, IsTrue, List, [], ◌∷◌, length, take, Some, None, Result, IfOk}
 use Rattle.sx_desk.specs.Desk.{Seen, bytes_of}
-use Rattle.sx_desk.specs.declared.desk.Out.TheVariants as out
-use Rattle.sx_names.specs.Numbering.{NameTable, IsDistinct, KeepsPlaces}
+use Rattle.sx_names.specs.Numbering.{NameTable, IsDistinct}
 use Rattle.sx_named.specs.Named.{named}
-use Rattle.sx_limits.specs.declared.faults.DocFault.{DocFault}
 use Rattle.sx_limits.specs.declared.limits.Limits.{Limits}
 use Rattle.sx_events.specs.Course.{Lined, events_of, break_of}
 use Rattle.sx_limits.specs.Limits.{stated}
 use Rattle.sx_events.specs.Reader as reader
 use Rattle.sx_sheet.specs.declared.reading.LinedEvent.{LinedEvent}
 use Rattle.sx_sheet.specs.Tokens.{AreKnown}
-use Rattle.sx_reading.specs.Frame.{Frame}
-use Rattle.sx_reading.specs.Headline.{WrittenFor, OutcomeFor, Transforms, nothing_written, whole_outcome, status_of_bytes, IsFailure}
-use Rattle.sx_reading.specs.declared.consumer.Outcome.{Outcome}
+use Rattle.sx_reading.specs.Transforming.{WrittenFor, OutcomeFor, Transforms, nothing_written, whole_outcome, status_of_bytes, IsFailure}
 use Rattle.sx_reading.specs.declared.consumer.Outcome.TheVariants as outcomes
 use Rattle.sx_reading.specs.declared.status.Input.TheVariants as input
 use Rattle.sx_reading.specs.declared.status.Status.{Status}
-use Rattle.sx_reading.specs.declared.status.Status.TheVariants as status
 use Rattle.sx_top.specs.declared.stylesheet.StylesheetReader.{StylesheetReader}
 
 -- the limits of a stylesheet are those of a document, but for its bytes
@@ -80,7 +75,6 @@ pub record AreEvents (names : NameTable) (events : List LinedEvent) (bytes : Lis
 -- What reading the stylesheet of a file did and gave: nothing was written, and where it was read to its end, these are the
 -- events of its bytes.
 pub record ReadsSheet (file : ℕ) (old new : Seen) (names : NameTable) (result : Result (List LinedEvent) Status) : Type 0 where
-  pub frame : Frame file out.Result old new
   pub transforms : Transforms nothing_written sheet_outcome file old new (status_of_bytes result)
   pub failed : IsFailure result
   pub content : IfOk result (λ events. (bytes : List ℕ) × AreEvents names events bytes × (IsTrue new.told → bytes ≡ bytes_of old file))

@@ -3,7 +3,7 @@ ghost use Rattle.std.specs.Prelude.{◌≡◌, ℕ, List, None};
 ghost use Rattle.sx_limits.specs.declared.limits.Limits.{Limits as Bounds};
 ghost use Rattle.sx_kinds.specs.declared.sheets.Sheet.{Sheet as Stylesheet};
 ghost use Rattle.sx_machine.specs.Body.{culprit};
-ghost use Rattle.sx_reading.specs.Headline.{Grows};
+ghost use Rattle.sx_reading.specs.Transforming.{Grows};
 ghost use Rattle.sx_top.specs.Run.{run_written};
 ghost use Rattle.sx_names.specs.Numbering.{NameTable};
 

@@ -1,6 +1,6 @@
 // From the name of a stylesheet to the stylesheet.
-ghost use Rattle.std.specs.Prelude.{◌≡◌, ◌+◌, ◌<◌, ◌≤◌, ◌^◌, ℕ, List, length};
-ghost use Rattle.sx_names.specs.Numbering.{KeepsPlaces};
+ghost use Rattle.std.specs.Prelude.{◌≡◌, ◌+◌, ◌<◌, ◌≤◌, ◌^◌, ℕ, List, OnOk, length};
+ghost use Rattle.sx_names.specs.Numbering.{IsDistinct, KeepsPlaces};
 ghost use Rattle.sx_reading.specs.Program.{IsQuiet};
 ghost use Rattle.sx_top.specs.Loading.{Judged, Loads};
 ghost use Rattle.sx_top.specs.Stylesheet.{AreEvents};
@@ -19,6 +19,7 @@ use sx_sheet::LinedEvents;
 fn accept(alloc: Global, events: &LinedEvents, names: &mut Names) -> Result<Sheet, Status>
     ensures judged { (bytes : List ℕ) → AreEvents names.old events.now bytes → Judged bytes names.new result }
     ensures kept { KeepsPlaces names.old names.new }
+    ensures distinct { IsDistinct names.new }
 {
     let sheet = match sx_sheet::read(alloc, events, names) {
         Ok(Ok(sheet)) => sheet,
@@ -48,7 +49,8 @@ pub fn load<D: Desk>(
     desk: &mut D,
 ) -> Result<Sheet, Status>
     requires { length (D.seen desk.old).opened < 2 ^ 31 }
-    ensures loads { Loads name.now names.new (D.seen desk.old) (D.seen desk.new) result }
+    ensures loads { IsDistinct names.old → Loads name.now names.new (D.seen desk.old) (D.seen desk.new) result }
+    ensures distinct { OnOk result (IsDistinct names.new) }
     ensures quiet { IsQuiet (D.seen desk.old) (D.seen desk.new) }
     ensures opened { length (D.seen desk.new).opened ≤ length (D.seen desk.old).opened + 1 }
 {

@@ -7,7 +7,7 @@ ghost use Rattle.sx_machine.specs.Growth.{MayCome};
 ghost use Rattle.sx_machine.specs.Meaning.{IsReady};
 ghost use Rattle.sx_machine.specs.Session as machine;
 ghost use Rattle.sx_names.specs.Numbering.{NameTable, IsDistinct, KeepsPlaces};
-ghost use Rattle.sx_named.specs.Named.{ElementStart, named, IsKnown};
+ghost use Rattle.sx_named.specs.Named.{NamedElement, named_in_tree, IsKnown};
 ghost use Rattle.sx_top.specs.Runner.{ended_in};
 ghost use Rattle.sx_tree.specs.Tree.{TreeEvent};
 
@@ -99,9 +99,9 @@ impl Runner {
 
     // Runs an event, and says whether the run goes on.
     fn take(&mut self, event: Event) -> Result<bool, AllocError>
-        ensures ran { OnOk result ((sheet : Stylesheet) (known : NameTable) (limits : Bounds) (p : List (TreeEvent ElementStart)) (w : List ℕ)
-            → KeepsPlaces known self.old.names → IsDistinct self.old.names → IsKnown self.old.names event → MayCome p (named self.old.names event)
-            → Ran sheet known limits self.old p w → Ran sheet known limits self.new (p ++ named self.old.names event ∷ []) w) }
+        ensures ran { OnOk result ((sheet : Stylesheet) (known : NameTable) (limits : Bounds) (p : List (TreeEvent NamedElement)) (w : List ℕ)
+            → KeepsPlaces known self.old.names → IsDistinct self.old.names → IsKnown self.old.names event → MayCome p (named_in_tree self.old.names event)
+            → Ran sheet known limits self.old p w → Ran sheet known limits self.new (p ++ named_in_tree self.old.names event ∷ []) w) }
         ensures going { IfOk result (λ on. on ≡ true → (self.new.session.state ≡ state.Going)) }
         ensures ended { IfOk result (λ on. on ≡ false → (self.new.session.state ≡ state.Going → ⊥)) }
         ensures names { self.new.names ≡ self.old.names }

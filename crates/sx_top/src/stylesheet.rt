@@ -1,5 +1,7 @@
 // The events of a stylesheet.
 ghost use Rattle.std.specs.Prelude.{◌≡◌, ◌<◌, ℕ, List, [], ◌++◌, Bool, IsTrue, None, false, true, length, OnOk, IfOk};
+ghost use Rattle.sx_desk.specs.declared.desk.Out.TheVariants as out;
+ghost use Rattle.sx_reading.specs.Frame.{Frame};
 ghost use Rattle.sx_names.specs.Numbering.{IsDistinct, KeepsPlaces};
 ghost use Rattle.sx_top.specs.Stylesheet.{StylesheetStands, Collects, ReadsSheet, sheet_limits};
 
@@ -156,11 +158,10 @@ pub(crate) fn read_stylesheet<D: Desk>(
 ) -> Result<LinedEvents, Status>
     requires given { file < length (D.seen desk.old).opened }
     requires untouched { IsTrue (D.seen desk.old).told → (D.seen desk.old).taken file ≡ 0 }
-    ensures reads { ReadsSheet file (D.seen desk.old) (D.seen desk.new) names.new result }
+    ensures reads { IsDistinct names.old → ReadsSheet file (D.seen desk.old) (D.seen desk.new) names.new result }
+    ensures frame { Frame file out.Result (D.seen desk.old) (D.seen desk.new) }
     ensures kept { KeepsPlaces names.old names.new }
 {
-    // Its contract says that each name is there once.
-    names.find("", "");
     let own = mem::replace(names, sx_names::new(alloc));
     let mut reader = StylesheetReader::new(alloc, own);
     let status = transfer(alloc, file, desk, &mut reader);

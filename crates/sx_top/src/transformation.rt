@@ -1,15 +1,14 @@
 // A document transformed by a stylesheet.
-ghost use Rattle.std.specs.Prelude.{◌≡◌, ◌<◌, ◌≤◌, ◌^◌, ℕ, [], IsTrue, IfOk, length};
+ghost use Rattle.std.specs.Prelude.{◌≡◌, ◌<◌, ◌≤◌, ◌^◌, IsTrue, length};
 ghost use Rattle.sx_desk.specs.declared.desk.Out.TheVariants as out;
 ghost use Rattle.sx_machine.specs.Meaning.{IsReady};
-ghost use Rattle.sx_machine.specs.Session.{Stands};
 ghost use Rattle.sx_names.specs.Numbering.{IsDistinct, KeepsPlaces};
 ghost use Rattle.sx_reading.specs.Frame.{Frame};
-ghost use Rattle.sx_reading.specs.Headline.{Transforms};
+ghost use Rattle.sx_reading.specs.Transforming.{Transforms};
 ghost use Rattle.sx_top.specs.Run.{run_written, run_outcome};
 
 use crate::runner::Runner;
-use std::alloc::{AllocError, Global};
+use std::alloc::Global;
 use std::mem;
 use sx_desk::Desk;
 use sx_events::Limits;
@@ -17,18 +16,6 @@ use sx_kinds::Sheet;
 use sx_machine::Session;
 use sx_names::Names;
 use sx_reading::{Status, transfer};
-
-// A session of a stylesheet, which is kept.
-fn start(
-    alloc: Global,
-    sheet: &Sheet,
-    invocations: u64,
-    names: &Names,
-) -> Result<Session, AllocError>
-    ensures { IfOk result (λ s. IsReady sheet.now names.now → IsDistinct names.now → Stands sheet.now names.now invocations s [] 0) }
-{
-    Session::start(alloc, Sheet::copy(alloc, sheet)?, invocations, names)
-}
 
 /// Runs a stylesheet on an opened file of which nothing was taken: writes to the result, before each read, all that is
 /// determined by then. `names` are those of the stylesheet; the document's names get their numbers behind them. A document
@@ -47,13 +34,12 @@ pub fn transform<D: Desk>(
     requires bytes { limits.now.bytes ≤ 2 ^ 40 }
     requires given { file < length (D.seen desk.old).opened }
     requires untouched { IsTrue (D.seen desk.old).told → (D.seen desk.old).taken file ≡ 0 }
-    ensures runs { IsReady sheet.now names.old → Transforms (run_written sheet.now names.old limits.now) (run_outcome sheet.now names.old limits.now) file (D.seen desk.old) (D.seen desk.new) result }
+    ensures runs { IsReady sheet.now names.old → IsDistinct names.old
+        → Transforms (run_written sheet.now names.old limits.now) (run_outcome sheet.now names.old limits.now) file (D.seen desk.old) (D.seen desk.new) result }
     ensures kept { KeepsPlaces names.old names.new }
     ensures frame { Frame file out.Result (D.seen desk.old) (D.seen desk.new) }
 {
-    // Its contract says that each name is there once.
-    names.find("", "");
-    match start(alloc, sheet, limits.invocations, names) {
+    match Session::start(alloc, sheet, limits.invocations, names) {
         Ok(session) => {
             let own = mem::replace(names, sx_names::new(alloc));
             let mut runner = Runner::new(alloc, session, own, limits);

@@ -1,5 +1,5 @@
 use Rattle.std.proofs.Common.{◌≡◌, Some, None, sym}
-use Rattle.sx_reading.proofs.Turns.{flush_fails, flushed, stops_short, settles, goes_on}
+use Rattle.sx_reading.proofs.Turns.{stops_writing, flushed, settles, goes_on}
 use Rattle.sx_reading.proofs.reading.flush.Goals as goal
 
 pub returns-in-Err-clause-frame : goal.returns-in-Err-clause-frame
@@ -8,8 +8,8 @@ returns-in-Err-clause-frame g c = λ file. c.in-Err.ensures.some.1.frame file
 pub returns-in-Err-clause-after : goal.returns-in-Err-clause-after
 returns-in-Err-clause-after g c = λ written outcome file start b w ended fed stands.
     let whole = c.output.ensures written outcome b w ended stands in
-    stops_short written outcome (g.C.Consumer.stands c.args.consumer.now written outcome) file start (g.D.Desk.seen c.write_all.new.desk) _ (λ q. cc)
-    (flush_fails written outcome file start (g.D.Desk.seen c.args.desk.now) (g.D.Desk.seen c.write_all.new.desk) b w c.output.result.now ended fed whole c.in-Err.field-0 c.in-Err.ensures)
+    stops_writing written outcome (g.C.Consumer.stands c.args.consumer.now written outcome) file start (g.D.Desk.seen c.write_all.new.desk) (g.D.Desk.seen c.args.desk.now) b w c.output.result.now ended
+    c.in-Err.field-0 fed whole c.in-Err.ensures stands
 
 pub returns-in-Err-clause-keeps : goal.returns-in-Err-clause-keeps
 returns-in-Err-clause-keeps g c = g.met.C.Consumer.keeps_same c.args.consumer.now

@@ -11,10 +11,10 @@ returns-in-Some-clause-runs g c = λ written outcome stands.
     (c.in-Some.ensures.after written outcome c.args.file (g.D.Desk.seen c.args.desk.now) [] [] false
     (begins written outcome c.args.file (g.D.Desk.seen c.args.desk.now) c.requires.untouched) stands).transforms
 
-pub returns-in-Some-clause-whole : goal.returns-in-Some-clause-whole
-returns-in-Some-clause-whole g c = λ written outcome stands.
+pub returns-in-Some-clause-left : goal.returns-in-Some-clause-left
+returns-in-Some-clause-left g c = λ written outcome stands.
     (c.in-Some.ensures.after written outcome c.args.file (g.D.Desk.seen c.args.desk.now) [] [] false
-    (begins written outcome c.args.file (g.D.Desk.seen c.args.desk.now) c.requires.untouched) stands).whole
+    (begins written outcome c.args.file (g.D.Desk.seen c.args.desk.now) c.requires.untouched) stands).left
 
 pub reads-init : goal.reads-init
 reads-init g c = record {
@@ -47,10 +47,10 @@ returns-in-Some-take_turn-clause-runs g c = λ written outcome stands.
     let before = c.reads.invariant.running written outcome stands in
     (c.in-Some-take_turn.ensures.after written outcome (g.D.Desk.seen c.args.desk.now) before.0 before.2 before.3).transforms
 
-pub returns-in-Some-take_turn-clause-whole : goal.returns-in-Some-take_turn-clause-whole
-returns-in-Some-take_turn-clause-whole g c = λ written outcome stands.
+pub returns-in-Some-take_turn-clause-left : goal.returns-in-Some-take_turn-clause-left
+returns-in-Some-take_turn-clause-left g c = λ written outcome stands.
     let before = c.reads.invariant.running written outcome stands in
-    (c.in-Some-take_turn.ensures.after written outcome (g.D.Desk.seen c.args.desk.now) before.0 before.2 before.3).whole
+    (c.in-Some-take_turn.ensures.after written outcome (g.D.Desk.seen c.args.desk.now) before.0 before.2 before.3).left
 
 pub returns-in-Some-take_turn-clause-keeps : goal.returns-in-Some-take_turn-clause-keeps
 returns-in-Some-take_turn-clause-keeps g c =

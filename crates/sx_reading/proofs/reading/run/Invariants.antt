@@ -1,7 +1,7 @@
 use Rattle.std.proofs.Common.{◌≤◌, ◌-◌, ◌^◌, ◌+◌, List, [], ℕ, length, false}
 use Rattle.sx_desk.specs.declared.desk.Out.TheVariants as out
 use Rattle.sx_reading.specs.Frame.{Frame}
-use Rattle.sx_reading.specs.Headline.{WrittenFor, OutcomeFor}
+use Rattle.sx_reading.specs.Transforming.{WrittenFor, OutcomeFor}
 use Rattle.sx_reading.specs.Turn.{Running}
 use Rattle.sx_reading.proofs.reading.run.Given as goal
 

@@ -26,7 +26,7 @@ state_first sheet names (suc left) = refl
 pub returns-clause-stands : goal.returns-clause-stands
 returns-clause-stands c = λ ready distinct.
     let table = c.in_ok-new.field-0 in
-    let sheet = c.args.sheet in
+    let sheet = c.args.sheet.now in
     let names = c.args.names.now in
     let rules_are : AreRulesOf sheet.templates table.list =
     subst (λ (ts : List Template). AreRulesOf ts table.list) c.as_slice.ensures c.in_ok-new.ensures.rules in

@@ -16,7 +16,7 @@ pub returns-in-Some-Err-clause-stands : goal.returns-in-Some-Err-clause-stands
 returns-in-Some-Err-clause-stands c = λ sheet known limits b w ended ready most fed.
     let f = c.events.invariant.1 sheet known limits b w ended ready most fed in
     let gives = (rw (c.in-Some-Err.is, c.in-Some-Err.field-0-is) at c.in_ok-next.ensures.gives) limits b ended _ f.reads in
-    after_fault sheet known limits b w ended ready most c.events.self f _ c.in-Some-Err.fault refl refl gives
+    after_fault sheet known limits b w ended ready most c.events.self f _ c.in-Some-Err.fault refl refl refl gives
 
 pub returns-in-Some-Err-clause-kept : goal.returns-in-Some-Err-clause-kept
 returns-in-Some-Err-clause-kept c = KeepsPlaces-trans c.args.self.now.names c.events.self.names c.next.new.names c.events.invariant.0 c.next.ensures.kept

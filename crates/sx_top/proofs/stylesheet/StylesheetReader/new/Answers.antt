@@ -1,4 +1,4 @@
-use Rattle.std.proofs.Common.{[], ℕ, List, false, refl, subst}
+use Rattle.std.proofs.Common.{[], false, refl, subst}
 use Rattle.sx_events.specs.Reader as reader
 use Rattle.sx_limits.specs.declared.limits.Limits.{Limits}
 use Rattle.sx_top.proofs.Stylesheets.{fresh}

@@ -1,4 +1,4 @@
-use Rattle.std.proofs.Common.{true, false, refl, sym, ◌∙◌, ap}
+use Rattle.std.proofs.Common.{refl, sym, ◌∙◌}
 use Rattle.sx_names.proofs.Places.{KeepsPlaces-trans}
 use Rattle.sx_top.specs.declared.stylesheet.StylesheetReader.{StylesheetReader}
 use Rattle.sx_top.specs.Stylesheet.{sheet_limits}

@@ -1,4 +1,3 @@
-use Rattle.std.proofs.Common.{[], ap, sym, ◌∙◌}
 use Rattle.sx_top.proofs.Stylesheets.{output_is}
 use Rattle.sx_top.proofs.stylesheet.StylesheetReaderConsumer.output.Goals as goal
 
