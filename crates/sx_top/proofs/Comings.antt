@@ -58,7 +58,7 @@ events_may_come limits b ended = all_come [] (whats (events_of limits b ended)) 
 pub events_grow : (limits : Limits) (b d : List ℕ) (ended : Bool) → (rest : Happenings) × (happened limits (b ++ d) ended ≡ happened limits b false ++ rest)
 events_grow limits b d ended =
     let g = grows limits b d ended in
-    (all_in_tree (whats g.more), ap all_in_tree g.happenings ∙ map-append in_tree (whats (events_of limits b false)) (whats g.more))
+    (all_in_tree (whats g.more), g.in_tree)
 
 -- behind a break nothing happens, and the break stays
 pub events_stay : (limits : Limits) (b d : List ℕ) (ended : Bool) (f : DocFault) → break_of limits b false ≡ Some f

@@ -10,7 +10,7 @@ loop-event-preserved c =
     let e = c.event-item.result in
     let text = c.args.after_text in
     let before = c.args.due.now.items in (
-      c.in_ok-append.ensures
+      c.in_ok-append.ensures.ok
           ∙ ap (λ (x : List ℕ). x ++ printed c.loop-event.text e) c.loop-event.invariant.0
           ∙ append_assoc before (print_all text (take i events)) (printed c.loop-event.text e)
           ∙ ap (λ (t : _). before ++ (print_all text (take i events) ++ printed t e)) c.loop-event.invariant.1
