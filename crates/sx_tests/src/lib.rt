@@ -4,6 +4,8 @@
 #[cfg(test)]
 mod fake;
 #[cfg(test)]
+mod memory;
+#[cfg(test)]
 mod real;
 #[cfg(test)]
 mod runs;
