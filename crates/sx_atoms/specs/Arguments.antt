@@ -1,5 +1,5 @@
--- Arguments as texts and as numbers (XPath 3.1, 3.1.5.2).
-use Rattle.std.specs.Prelude.{ℕ, List, [], ◌∷◌, Option, Some, None, Result, Ok, Err}
+-- Arguments, as texts and as numbers (XPath 3.1, 3.1.5.2).
+use Rattle.std.specs.Prelude.{ℕ, List, [], ◌∷◌, Option, Some, None, Result, Ok, Err, slice_get, unwrap_or}
 use Rattle.std.specs.Option.{option_map}
 use Rattle.sx_atoms.specs.Arithmetic.{number_of}
 use Rattle.sx_atoms.specs.Laws.{atom_of}
@@ -9,6 +9,10 @@ use Rattle.sx_atoms.specs.declared.atoms.Atom.TheVariants as atom
 use Rattle.sx_atoms.specs.declared.error_codes.Code.{Code}
 use Rattle.sx_atoms.specs.declared.error_codes.Code.TheVariants as code
 use Rattle.sx_atoms.specs.declared.numbers.Number.{Number}
+
+-- the argument at a place, counted from 0; one that is missing is empty
+abbrev pub argument : List (List Atom) → ℕ → List Atom
+argument args place = unwrap_or (slice_get args place) []
 
 -- the text that an atom is: a string, or text without a type
 abbrev pub text_in : Atom → Result (List ℕ) Code

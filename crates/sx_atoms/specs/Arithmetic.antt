@@ -67,11 +67,13 @@ difference_of (Units a b) = by_way_of ((a -ℤ b) ∷ []) (atom.Dec (dec (a -ℤ
 -- the product: that of decimals is the product of their units, divided by 10^9 and cut toward zero
 abbrev pub product_of : Operands → Result Atom Code
 product_of (Ints a b) = by_way_of ((a *ℤ b) ∷ []) (atom.Int (a *ℤ b))
-product_of (Units a b) = let cut = int_div (a *ℤ b) one in by_way_of ((a *ℤ b) ∷ cut ∷ []) (atom.Dec (dec cut))
+product_of (Units a b) = let cut = int_div (a *ℤ b) one in
+    by_way_of ((a *ℤ b) ∷ cut ∷ []) (atom.Dec (dec cut))
 
 -- the quotient of two integers, or of two numbers of units, as a decimal: 10^9 times the first, divided and cut toward zero
 abbrev pub decimal_quotient : ℤ → ℤ → Result Atom Code
-decimal_quotient a b = let cut = int_div (a *ℤ one) b in by_way_of ((a *ℤ one) ∷ cut ∷ []) (atom.Dec (dec cut))
+decimal_quotient a b = let cut = int_div (a *ℤ one) b in
+    by_way_of ((a *ℤ one) ∷ cut ∷ []) (atom.Dec (dec cut))
 
 -- the quotient, which is always a decimal
 abbrev pub quotient_of : Operands → Result Atom Code

@@ -14,7 +14,8 @@ is_blank c = c == 32 || c == 9 || c == 10 || c == 13
 
 -- a text without the white space at its ends
 abbrev pub trimmed : List ℕ → List ℕ
-trimmed text = let front = drop (prefix_len is_blank text) text in take (length front - suffix_len is_blank front) front
+trimmed text = let front = drop (prefix_len is_blank text) text in
+    take (length front - suffix_len is_blank front) front
 
 -- the number that digits write: each counts by its place
 abbrev pub digits_value : List ℕ → ℕ
@@ -31,11 +32,13 @@ with_sign minus n = if minus then neg_ℤ (pos n) else pos n
 
 -- the integer that these digits write
 abbrev pub integer_of : Bool → List ℕ → Result ℤ Code
-integer_of minus digits = if are_digits digits then held (with_sign minus (digits_value digits)) else Err code.Forg0001
+integer_of minus digits =
+    if are_digits digits then held (with_sign minus (digits_value digits)) else Err code.Forg0001
 
 -- the integer that a text writes: digits, behind one sign or none, and white space round it
 abbrev pub integer_in : List ℕ → Result ℤ Code
-integer_in text = let numeral = trimmed text in integer_of (starts_with_minus numeral) (without_leading_sign numeral)
+integer_in text = let numeral = trimmed text in
+    integer_of (starts_with_minus numeral) (without_leading_sign numeral)
 
 abbrev pub is_point : ℕ → Bool
 is_point c = c == 46
@@ -48,7 +51,8 @@ units_value whole fraction = digits_value whole * 10 ^ 9 + digits_value fraction
 abbrev pub units_of : Bool → List ℕ → List ℕ → Result ℤ Code
 units_of minus whole fraction =
     if are_digits (whole ++ fraction)
-    then (if nat_le (length fraction) 9 then held (with_sign minus (units_value whole fraction)) else Err code.Foca0006)
+    then (if nat_le (length fraction) 9 then held (with_sign minus (units_value whole fraction))
+    else Err code.Foca0006)
     else Err code.Forg0001
 
 -- the decimal that a text writes, in units: as an integer, but with a point before, between or behind the digits or none

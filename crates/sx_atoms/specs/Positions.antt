@@ -62,7 +62,8 @@ span_of start (Some count) = do
 -- the items at the positions that pass, where the first one has position p (14.1.8)
 abbrev pub at_positions : {X : Type 0} → (ℕ → Bool) → ℕ → List X → List X
 at_positions keep p [] = []
-at_positions keep p (x ∷ xs) = if keep p then x ∷ at_positions keep (suc p) xs else at_positions keep (suc p) xs
+at_positions keep p (x ∷ xs) =
+    if keep p then x ∷ at_positions keep (suc p) xs else at_positions keep (suc p) xs
 
 -- the span that the code keeps
 abbrev pub span_in : Chosen → Span

@@ -1,18 +1,41 @@
-// The text, the number and the positions that arguments are.
-ghost use Rattle.std.specs.Prelude.{◌≡◌, Ok, Err, IfOk, MatchResult};
+// The arguments of a call, and the text, the number and the positions that they are.
+ghost use Rattle.std.specs.Prelude.{◌≡◌, Ok, Err, IfOk, MatchResult, slice_get};
 ghost use Rattle.std.specs.Option.{option_copied};
 ghost use Rattle.sx_atoms.specs.Positions.{span_of, rounded_answer};
+ghost use Rattle.sx_atoms.specs.Arguments as spec;
 ghost use Rattle.sx_atoms.specs.Arguments.{text_argument, number_atom, number_answer};
 
 use crate::rounding::round;
 use crate::span::Positions;
-use crate::{Atom, AtomType, Code, cast};
+use crate::{Args, Atom, AtomType, Code, cast};
 use std::alloc::{AllocError, Global};
+
+/// The argument of a call at a place, counted from 0; an empty one where it is missing.
+pub fn argument(args: &Args, place: usize) -> &[Atom]
+    ensures { result.now ≡ spec.argument args.now place }
+{
+    match args.get(place) {
+        Some(atoms) => atoms.as_slice(),
+        None => &[],
+    }
+}
+
+/// The argument of a call at a place, counted from 0, where it is given.
+pub fn given(args: &Args, place: usize) -> Option<&[Atom]>
+    ensures { option_copied result ≡ slice_get args.now place }
+{
+    match args.get(place) {
+        Some(atoms) => Some(atoms.as_slice()),
+        None => None,
+    }
+}
 
 /// An argument as a text (XPath 3.1, 3.1.5.2): "" where it is empty. XPTY0004 for a number, a truth value and more than one
 /// atom.
 pub fn text(atoms: &[Atom]) -> Result<&str, Code>
-    ensures { MatchResult result (λ s. text_argument atoms.now ≡ Ok s.now) (λ e. text_argument atoms.now ≡ Err e) }
+    ensures { MatchResult result
+        (λ s. text_argument atoms.now ≡ Ok s.now)
+        (λ e. text_argument atoms.now ≡ Err e) }
 {
     match atoms {
         [] => Ok(""),

@@ -77,7 +77,9 @@ fn value(atom: &Atom) -> Comparable<'_>
 
 // Text without a type, read as what stands beside it in a general comparison.
 fn text_beside<'a>(text: &'a str, other: &Atom) -> Result<Comparable<'a>, Code>
-    ensures { MatchResult result (λ x. read_beside text.now (value_of other.now) ≡ Ok (seen x)) (λ e. read_beside text.now (value_of other.now) ≡ Err e) }
+    ensures { MatchResult result
+        (λ x. read_beside text.now (value_of other.now) ≡ Ok (seen x))
+        (λ e. read_beside text.now (value_of other.now) ≡ Err e) }
 {
     match other {
         Atom::Int(_) | Atom::Dec(_) => {
@@ -91,7 +93,9 @@ fn text_beside<'a>(text: &'a str, other: &Atom) -> Result<Comparable<'a>, Code>
 
 // An operand of a comparison, general or not, beside the other one.
 fn operand<'a>(general: bool, atom: &'a Atom, other: &Atom) -> Result<Comparable<'a>, Code>
-    ensures { MatchResult result (λ x. value_beside general atom.now other.now ≡ Ok (seen x)) (λ e. value_beside general atom.now other.now ≡ Err e) }
+    ensures { MatchResult result
+        (λ x. value_beside general atom.now other.now ≡ Ok (seen x))
+        (λ e. value_beside general atom.now other.now ≡ Err e) }
 {
     match atom {
         Atom::Untyped(text) if general => text_beside(text.as_str(), other),

@@ -19,39 +19,51 @@ use crate::atoms::Atom;
 
 /// Numbers are compared by their exact values, in value comparisons and in general ones, and so they have a total order.
 pub fn order()
-    ensures by_value { (op : Operator) (general : Bool) (x y : AnyNumber) → comparison_of op general (atom_of x) (atom_of y) ≡ Ok (holds op (order_of_numbers x y)) }
+    ensures by_value { (op : Operator) (general : Bool) (x y : AnyNumber)
+        → comparison_of op general (atom_of x) (atom_of y) ≡ Ok (holds op (order_of_numbers x y)) }
     ensures total { IsTotalOrder order_of_numbers }
 {}
 
 /// The order of texts by their bytes is that by their characters.
 pub fn text_order()
-    ensures { (s t : List ℕ) → slice_cmp nat_cmp (encode_utf8_all s) (encode_utf8_all t) ≡ slice_cmp nat_cmp s t }
+    ensures { (s t : List ℕ)
+        → slice_cmp nat_cmp (encode_utf8_all s) (encode_utf8_all t) ≡ slice_cmp nat_cmp s t }
 {}
 
 /// What is printed of a number casts back to it, also as text without a type.
 pub fn printing()
-    ensures text { (x : AnyNumber) → fits (content x) ≡ true → cast_of (Atom.Str (text_of (atom_of x))) (type_of x) ≡ Ok (atom_of x) }
-    ensures untyped { (x : AnyNumber) → fits (content x) ≡ true → cast_of (Atom.Untyped (text_of (atom_of x))) (type_of x) ≡ Ok (atom_of x) }
+    ensures text { (x : AnyNumber) → fits (content x) ≡ true
+        → cast_of (Atom.Str (text_of (atom_of x))) (type_of x) ≡ Ok (atom_of x) }
+    ensures untyped { (x : AnyNumber) → fits (content x) ≡ true
+        → cast_of (Atom.Untyped (text_of (atom_of x))) (type_of x) ≡ Ok (atom_of x) }
 {}
 
 /// The order of summands makes no difference; nor does it which sum is made first, where both sums of all three are held.
 pub fn addition()
-    ensures commutative { (a b s : AnyAtom) → with_operands sum_of a b ≡ Ok s → with_operands sum_of b a ≡ Ok s }
-    ensures associative { (a b c s t u v : AnyAtom) → with_operands sum_of a b ≡ Ok s → with_operands sum_of b c ≡ Ok t
+    ensures commutative { (a b s : AnyAtom)
+        → with_operands sum_of a b ≡ Ok s → with_operands sum_of b a ≡ Ok s }
+    ensures associative { (a b c s t u v : AnyAtom)
+        → with_operands sum_of a b ≡ Ok s → with_operands sum_of b c ≡ Ok t
         → with_operands sum_of s c ≡ Ok u → with_operands sum_of a t ≡ Ok v → u ≡ v }
 {}
 
 /// The whole quotient and the remainder are those of the division that cuts toward zero, so that the quotient times the
 /// divisor and the remainder give the dividend again; a decimal quotient and a product of decimals are cut alike.
 pub fn division()
-    ensures whole { (x y r : AnyNumber) (q : ℤ) → with_divisor whole_quotient_of (atom_of x) (atom_of y) ≡ Ok (Atom.Int q)
-        → with_divisor remainder_of (atom_of x) (atom_of y) ≡ Ok (atom_of r) → IsCut (units x) (units y) q (units r) }
-    ensures restored { (x y r p s : AnyNumber) (q : ℤ) → with_divisor whole_quotient_of (atom_of x) (atom_of y) ≡ Ok (Atom.Int q)
-        → with_divisor remainder_of (atom_of x) (atom_of y) ≡ Ok (atom_of r) → with_operands product_of (Atom.Int q) (atom_of y) ≡ Ok (atom_of p)
+    ensures whole { (x y r : AnyNumber) (q : ℤ)
+        → with_divisor whole_quotient_of (atom_of x) (atom_of y) ≡ Ok (Atom.Int q)
+        → with_divisor remainder_of (atom_of x) (atom_of y) ≡ Ok (atom_of r)
+        → IsCut (units x) (units y) q (units r) }
+    ensures restored { (x y r p s : AnyNumber) (q : ℤ)
+        → with_divisor whole_quotient_of (atom_of x) (atom_of y) ≡ Ok (Atom.Int q)
+        → with_divisor remainder_of (atom_of x) (atom_of y) ≡ Ok (atom_of r)
+        → with_operands product_of (Atom.Int q) (atom_of y) ≡ Ok (atom_of p)
         → with_operands sum_of (atom_of p) (atom_of r) ≡ Ok (atom_of s) → units s ≡ units x }
-    ensures quotient { (x y : AnyNumber) (d : ℤ) → with_divisor quotient_of (atom_of x) (atom_of y) ≡ Ok (Atom.Dec (dec d))
+    ensures quotient { (x y : AnyNumber) (d : ℤ)
+        → with_divisor quotient_of (atom_of x) (atom_of y) ≡ Ok (Atom.Dec (dec d))
         → (r : ℤ) × IsCut (units x *ℤ one) (units y) d r }
-    ensures product { (d e p : ℤ) → with_operands product_of (Atom.Dec (dec d)) (Atom.Dec (dec e)) ≡ Ok (Atom.Dec (dec p))
+    ensures product { (d e p : ℤ)
+        → with_operands product_of (Atom.Dec (dec d)) (Atom.Dec (dec e)) ≡ Ok (Atom.Dec (dec p))
         → (r : ℤ) × IsCut (d *ℤ e) one p r }
 {}
 

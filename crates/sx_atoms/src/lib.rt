@@ -2,7 +2,9 @@
 //! their arguments.
 #![tactic(auto)]
 
-/// The text, the number and the positions that an argument of a function is.
+/// The answer of a call that is one atom.
+pub mod answers;
+/// The arguments of a call, and the text, the number and the positions that one is.
 pub mod arguments;
 mod arithmetic;
 mod atoms;
@@ -24,6 +26,7 @@ pub use casting::{cast, castable};
 pub use comparison::{CmpOp, compare};
 pub use error_codes::Code;
 pub use functions::{SeqFn, TextFn, Usage};
+pub use numbers::UNITS;
 pub use printing::print;
 pub use rounding::{ceiling, floor, round};
 pub use signature::Signature;

@@ -75,7 +75,8 @@ impl Positions {
     pub fn range(&self, length: usize) -> (usize, usize)
         ensures order { result.0 ≤ result.1 }
         ensures within { result.1 ≤ length }
-        ensures exact { (p : ℕ) → p < length → selects self.now (p + 1) ≡ (nat_le result.0 p && nat_lt p result.1) }
+        ensures exact { (p : ℕ) → p < length
+            → selects self.now (p + 1) ≡ (nat_le result.0 p && nat_lt p result.1) }
     {
         match self.chosen {
             Chosen::Nowhere => (0, 0),

@@ -1,5 +1,7 @@
 -- What functions on sequences answer (XPath functions and operators 3.1).
-use Rattle.std.specs.Prelude.{ℕ, true, false, not, ◌==◌, List, [], ◌∷◌, length, reverse, unwrap_or, Result, Ok, pos, slice_get}
+use Rattle.std.specs.Prelude.{true, false, not, ◌==◌, List, [], ◌∷◌, length, map, reverse, Some, Result, Ok, pos, slice_get}
+use Rattle.sx_atoms.specs.Answers.{answered}
+use Rattle.sx_atoms.specs.Arguments.{argument}
 use Rattle.sx_atoms.specs.Numbers.{◌>>=◌}
 use Rattle.sx_atoms.specs.declared.atoms.Atom.{Atom}
 use Rattle.sx_atoms.specs.declared.atoms.Atom.TheVariants as atom
@@ -16,35 +18,25 @@ use Rattle.sx_fn_seq.specs.Sums.{total_of, average_of}
 use Rattle.sx_fn_seq.specs.Truths.{effective_truth}
 use Rattle.sx_fn_seq.specs.declared.rounding.Rounding.TheVariants as by
 
--- an answer of one atom
-abbrev pub single : Result Atom Code → Result (List Atom) Code
-single answer = do
-  a ← answer
-  Ok (a ∷ [])
-
 -- the effective boolean value (7.3.1), and the other truth value (7.3.2)
 abbrev pub boolean_of : List Atom → Result Atom Code
 boolean_of items = do
-  b ← effective_truth items
+  b ← effective_truth (map Some items)
   Ok (atom.Bool b)
 
 abbrev pub negation_of : List Atom → Result Atom Code
 negation_of items = do
-  b ← effective_truth items
+  b ← effective_truth (map Some items)
   Ok (atom.Bool (not b))
-
--- the argument at a place, counted from 0; one that is missing is empty
-abbrev pub argument : ℕ → List (List Atom) → List Atom
-argument place args = unwrap_or (slice_get args place) []
 
 -- what a function of one argument answers (2.4, 7.3, 14 and 18.1)
 abbrev pub of_one : SeqFn → List Atom → Result (List Atom) Code
 of_one fn.Count x = Ok (atom.Int (pos (length x)) ∷ [])
 of_one fn.Empty x = Ok (atom.Bool (length x == 0) ∷ [])
 of_one fn.Exists x = Ok (atom.Bool (not (length x == 0)) ∷ [])
-of_one fn.Boolean x = single (boolean_of x)
-of_one fn.Not x = single (negation_of x)
-of_one fn.Sum x = single (total_of x)
+of_one fn.Boolean x = answered (boolean_of x)
+of_one fn.Not x = answered (negation_of x)
+of_one fn.Sum x = answered (total_of x)
 of_one fn.Avg x = average_of x
 of_one fn.Min x = extreme_of op.Lt x
 of_one fn.Max x = extreme_of op.Gt x
@@ -70,5 +62,5 @@ of_one f x = Ok []
 abbrev pub seq_call : SeqFn → List (List Atom) → Result (List Atom) Code
 seq_call fn.True args = Ok (atom.Bool true ∷ [])
 seq_call fn.False args = Ok (atom.Bool false ∷ [])
-seq_call fn.Subsequence args = subsequence_of (argument 0 args) (argument 1 args) (slice_get args 2)
-seq_call f args = of_one f (argument 0 args)
+seq_call fn.Subsequence args = subsequence_of (argument args 0) (argument args 1) (slice_get args 2)
+seq_call f args = of_one f (argument args 0)

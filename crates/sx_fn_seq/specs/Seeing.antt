@@ -20,8 +20,10 @@ same v w = result_unwrap_or (order_of v w >>= (λ o. Ok (holds op.Eq o))) false
 -- these values were seen: numbers are kept by their units where these are a decimal's, and as integers elsewhere
 pub record Shows (s : Seen) (has : Value → Bool) : Type 0 where
   pub decimals : (z : ℤ) → fits z ≡ true → contains int_cmp s.decimals z ≡ has (value.quantity z)
-  pub integers : (n : ℤ) → fits (n *ℤ one) ≡ false → contains int_cmp s.integers n ≡ has (value.quantity (n *ℤ one))
-  pub texts : (k : Bor (List ℕ)) → contains (λ x y. slice_cmp nat_cmp x.now y.now) s.texts k ≡ has (value.text k.now)
+  pub integers : (n : ℤ) → fits (n *ℤ one) ≡ false
+      → contains int_cmp s.integers n ≡ has (value.quantity (n *ℤ one))
+  pub texts : (k : Bor (List ℕ))
+      → contains (λ x y. slice_cmp nat_cmp x.now y.now) s.texts k ≡ has (value.text k.now)
   pub truths : (b : Bool) → contains bool_cmp s.truths b ≡ has (value.truth b)
 
 -- no values were seen

@@ -1,32 +1,9 @@
-// Answers that are made of atoms.
-ghost use Rattle.std.specs.Prelude.{◌≡◌, [], ◌∷◌, IfOk};
-ghost use Rattle.sx_fn_seq.specs.Calls.{single};
+// Answers that are made of atoms of an argument.
+ghost use Rattle.std.specs.Prelude.{◌≡◌, Ok, Err, IfOk, MatchResult};
 
 use sqlite_items::Items;
 use std::alloc::{AllocError, Global};
 use sx_atoms::{Atom, Atoms, Code};
-
-/// One atom.
-pub fn one(alloc: Global, atom: Atom) -> Result<Atoms, AllocError>
-    ensures { IfOk result (λ atoms. atoms ≡ atom ∷ []) }
-{
-    let mut atoms = Items::new(alloc);
-    atoms.push(atom)?;
-    Ok(atoms)
-}
-
-/// An answer of one atom.
-pub fn answered(
-    alloc: Global,
-    answer: Result<Atom, Code>,
-) -> Result<Result<Atoms, Code>, AllocError>
-    ensures { IfOk result (λ atoms. atoms ≡ single answer) }
-{
-    match answer {
-        Ok(atom) => Ok(Ok(one(alloc, atom)?)),
-        Err(code) => Ok(Err(code)),
-    }
-}
 
 /// Copies of atoms.
 pub fn copies(alloc: Global, atoms: &[Atom]) -> Result<Atoms, AllocError>
@@ -37,4 +14,18 @@ pub fn copies(alloc: Global, atoms: &[Atom]) -> Result<Atoms, AllocError>
         copy.push(Atom::copy(alloc, atom)?)?;
     }
     Ok(copy)
+}
+
+/// Copies of the atoms of an answer.
+pub fn copied(
+    alloc: Global,
+    answer: Result<&[Atom], Code>,
+) -> Result<Result<Atoms, Code>, AllocError>
+    ensures { IfOk result (λ copy. MatchResult answer.entry
+        (λ atoms. copy ≡ Ok atoms.now) (λ e. copy ≡ Err e)) }
+{
+    match answer {
+        Ok(atoms) => Ok(Ok(copies(alloc, atoms)?)),
+        Err(code) => Ok(Err(code)),
+    }
 }

@@ -1,19 +1,22 @@
 // Calls of functions.
-ghost use Rattle.std.specs.Prelude.{◌≡◌, length, slice_get, IsTrue, IfOk};
-ghost use Rattle.std.specs.Option.{option_copied};
+ghost use Rattle.std.specs.Prelude.{◌≡◌, length, IsTrue, IfOk};
 ghost use Rattle.sx_fn_seq.specs.Calls as spec;
 ghost use Rattle.sx_fn_seq.specs.Calls.{boolean_of, negation_of, seq_call};
 ghost use Rattle.sx_fn_seq.specs.Signatures.{is_answerable};
 
-use crate::answers::{answered, copies, one};
+use crate::answers::{copied, copies};
 use crate::distinct::distinct;
 use crate::extremes::extreme;
-use crate::parts::{allowed, cast_one, head, reversed, subsequence, tail};
+use crate::parts::{
+    cast_one, exactly_one, head, one_or_more, reversed, selected, tail, zero_or_one,
+};
 use crate::rounding::{Rounding, rounded};
 use crate::sums::{average, total};
 use crate::truths::effective_truth;
 use sqlite_items::Items;
 use std::alloc::{AllocError, Global};
+use sx_atoms::answers::{answered, single};
+use sx_atoms::arguments::{argument, given};
 use sx_atoms::{Args, Atom, AtomType, Atoms, CmpOp, Code, SeqFn};
 
 // The effective boolean value.
@@ -30,34 +33,14 @@ fn negation(items: &[Atom]) -> Result<Atom, Code>
     Ok(Atom::Bool(!effective_truth(items)?))
 }
 
-// The argument at a place; one that is missing is empty.
-fn argument(args: &Args, place: usize) -> &[Atom]
-    ensures { result.now ≡ spec.argument place args.now }
-{
-    match args.get(place) {
-        Some(atoms) => atoms.as_slice(),
-        None => &[],
-    }
-}
-
-// The argument at a place, where it is given.
-fn given(args: &Args, place: usize) -> Option<&[Atom]>
-    ensures { option_copied result ≡ slice_get args.now place }
-{
-    match args.get(place) {
-        Some(atoms) => Some(atoms.as_slice()),
-        None => None,
-    }
-}
-
 // What a function of one argument answers.
 fn of_one(alloc: Global, f: SeqFn, x: &[Atom]) -> Result<Result<Atoms, Code>, AllocError>
     ensures { IfOk result (λ answer. answer ≡ spec.of_one f x.now) }
 {
     match f {
-        SeqFn::Count => Ok(Ok(one(alloc, Atom::Int(x.len() as i128))?)),
-        SeqFn::Empty => Ok(Ok(one(alloc, Atom::Bool(x.is_empty()))?)),
-        SeqFn::Exists => Ok(Ok(one(alloc, Atom::Bool(!x.is_empty()))?)),
+        SeqFn::Count => Ok(Ok(single(alloc, Atom::Int(x.len() as i128))?)),
+        SeqFn::Empty => Ok(Ok(single(alloc, Atom::Bool(x.is_empty()))?)),
+        SeqFn::Exists => Ok(Ok(single(alloc, Atom::Bool(!x.is_empty()))?)),
         SeqFn::Boolean => answered(alloc, boolean(x)),
         SeqFn::Not => answered(alloc, negation(x)),
         SeqFn::Sum => answered(alloc, total(x)),
@@ -70,12 +53,12 @@ fn of_one(alloc: Global, f: SeqFn, x: &[Atom]) -> Result<Result<Atoms, Code>, Al
         SeqFn::Floor => rounded(alloc, Rounding::Floor, x),
         SeqFn::Ceiling => rounded(alloc, Rounding::Ceiling, x),
         SeqFn::Round => rounded(alloc, Rounding::Round, x),
-        SeqFn::Head => Ok(Ok(head(alloc, x)?)),
-        SeqFn::Tail => Ok(Ok(tail(alloc, x)?)),
+        SeqFn::Head => Ok(Ok(copies(alloc, head(x))?)),
+        SeqFn::Tail => Ok(Ok(copies(alloc, tail(x))?)),
         SeqFn::Reverse => Ok(Ok(reversed(alloc, x)?)),
-        SeqFn::ZeroOrOne => allowed(alloc, x.len() <= 1, Code::Forg0003, x),
-        SeqFn::OneOrMore => allowed(alloc, 1 <= x.len(), Code::Forg0004, x),
-        SeqFn::ExactlyOne => allowed(alloc, x.len() == 1, Code::Forg0005, x),
+        SeqFn::ZeroOrOne => copied(alloc, zero_or_one(x)),
+        SeqFn::OneOrMore => copied(alloc, one_or_more(x)),
+        SeqFn::ExactlyOne => copied(alloc, exactly_one(x)),
         SeqFn::ToInteger => cast_one(alloc, AtomType::Integer, x),
         SeqFn::ToDecimal => cast_one(alloc, AtomType::Decimal, x),
         SeqFn::ToStr => cast_one(alloc, AtomType::Str, x),
@@ -93,14 +76,9 @@ pub fn call_seq(alloc: Global, f: SeqFn, args: &Args) -> Result<Result<Atoms, Co
     ensures { IfOk result (λ answer. answer ≡ seq_call f args.now) }
 {
     match f {
-        SeqFn::True => Ok(Ok(one(alloc, Atom::Bool(true))?)),
-        SeqFn::False => Ok(Ok(one(alloc, Atom::Bool(false))?)),
-        SeqFn::Subsequence => subsequence(
-            alloc,
-            argument(args, 0),
-            argument(args, 1),
-            given(args, 2),
-        ),
+        SeqFn::True => Ok(Ok(single(alloc, Atom::Bool(true))?)),
+        SeqFn::False => Ok(Ok(single(alloc, Atom::Bool(false))?)),
+        SeqFn::Subsequence => selected(alloc, argument(args, 0), argument(args, 1), given(args, 2)),
         _ => of_one(alloc, f, argument(args, 0)),
     }
 }

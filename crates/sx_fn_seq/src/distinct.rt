@@ -16,7 +16,8 @@ fn keep<'a>(
     item: &'a Atom,
 ) -> Result<(), AllocError>
     requires { Shows seen.old (has_value kept.old) }
-    ensures kept { OnOk result (kept.new ≡ (if is_among kept.old item.now then kept.old else kept.old ++ item.now ∷ [])) }
+    ensures kept { OnOk result (kept.new
+        ≡ (if is_among kept.old item.now then kept.old else kept.old ++ item.now ∷ [])) }
     ensures seen { OnOk result (Shows seen.new (has_value kept.new)) }
 {
     if seen.insert(item)? {

@@ -6,9 +6,9 @@ ghost use Rattle.sx_fn_seq.specs.Extremes as spec;
 ghost use Rattle.sx_fn_seq.specs.Extremes.{compared_among, extreme_of};
 ghost use Rattle.sx_fn_seq.specs.Order as order;
 
-use crate::answers::one;
 use sqlite_items::Items;
 use std::alloc::{AllocError, Global};
+use sx_atoms::answers::single;
 use sx_atoms::{Atom, AtomType, Atoms, CmpOp, Code, cast, compare};
 
 // Whether an operator holds of two values. It does not where they have no order.
@@ -152,7 +152,7 @@ pub fn extreme(
         [first, rest @ ..] => (first, rest),
     };
     match best_of(alloc, operator, first, rest)? {
-        Ok(best) => Ok(Ok(one(alloc, best)?)),
+        Ok(best) => Ok(Ok(single(alloc, best)?)),
         Err(code) => Ok(Err(code)),
     }
 }

@@ -12,24 +12,30 @@ ghost use Rattle.sx_fn_seq.specs.Sums.{sum_from, sum_after};
 
 /// The sum of two sequences behind one another is that of the second one, begun with the sum of the first.
 pub fn sums()
-    ensures { (start : AnyAtom) (xs ys : List AnyAtom) → sum_from start (xs ++ ys) ≡ sum_after (sum_from start xs) ys }
+    ensures { (start : AnyAtom) (xs ys : List AnyAtom)
+        → sum_from start (xs ++ ys) ≡ sum_after (sum_from start xs) ys }
 {}
 
 /// Where there is an item and none fails, the least and the greatest are one of the items as they are compared, and no item
 /// is less, or greater.
 pub fn extremes()
-    ensures one { (o : Operator) → (o ≡ op.Lt) ⊎ (o ≡ op.Gt) → (item : AnyAtom) (rest answer : List AnyAtom) → extreme_of o (item ∷ rest) ≡ Ok answer
+    ensures one { (o : Operator) → (o ≡ op.Lt) ⊎ (o ≡ op.Gt)
+        → (item : AnyAtom) (rest answer : List AnyAtom) → extreme_of o (item ∷ rest) ≡ Ok answer
         → (m : AnyAtom) × (answer ≡ m ∷ []) }
-    ensures among { (o : Operator) (item m : AnyAtom) (rest xs : List AnyAtom) → extreme_of o (item ∷ rest) ≡ Ok (m ∷ [])
+    ensures among { (o : Operator) (item m : AnyAtom) (rest xs : List AnyAtom)
+        → extreme_of o (item ∷ rest) ≡ Ok (m ∷ [])
         → all_compared (is_text item) (item ∷ rest) ≡ Ok xs → Contains xs m }
-    ensures unbeaten { (o : Operator) (item m : AnyAtom) (rest xs : List AnyAtom) → extreme_of o (item ∷ rest) ≡ Ok (m ∷ [])
+    ensures unbeaten { (o : Operator) (item m : AnyAtom) (rest xs : List AnyAtom)
+        → extreme_of o (item ∷ rest) ≡ Ok (m ∷ [])
         → all_compared (is_text item) (item ∷ rest) ≡ Ok xs → All (λ x. stands o x m ≡ false) xs }
 {}
 
 /// What is turned twice stands as before, and the head and the tail together are the sequence.
 pub fn parts()
-    ensures turned { (x y : List AnyAtom) → seq_call fn_named.Reverse (x ∷ []) ≡ Ok y → seq_call fn_named.Reverse (y ∷ []) ≡ Ok x }
-    ensures together { (x head tail : List AnyAtom) → seq_call fn_named.Head (x ∷ []) ≡ Ok head → seq_call fn_named.Tail (x ∷ []) ≡ Ok tail
+    ensures turned { (x y : List AnyAtom)
+        → seq_call fn_named.Reverse (x ∷ []) ≡ Ok y → seq_call fn_named.Reverse (y ∷ []) ≡ Ok x }
+    ensures together { (x head tail : List AnyAtom)
+        → seq_call fn_named.Head (x ∷ []) ≡ Ok head → seq_call fn_named.Tail (x ∷ []) ≡ Ok tail
         → head ++ tail ≡ x }
 {}
 

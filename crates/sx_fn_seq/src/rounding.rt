@@ -3,14 +3,11 @@ ghost use Rattle.std.specs.Prelude.{◌≡◌, IfOk};
 ghost use Rattle.sx_atoms.specs.declared.numbers.Number.TheVariants as number;
 ghost use Rattle.sx_fn_seq.specs.Rounding.{decimal_of, number_by, rounding_of};
 
-use crate::answers::answered;
 use sqlite_items::Items;
 use std::alloc::{AllocError, Global};
+use sx_atoms::answers::answered;
 use sx_atoms::arguments::number;
-use sx_atoms::{Atom, Atoms, Code, Dec, ceiling, floor, round};
-
-// How many units of a decimal make one.
-const ONE: i128 = 1_000_000_000;
+use sx_atoms::{Atom, Atoms, Code, Dec, UNITS, ceiling, floor, round};
 
 /// What is made of a number: its distance from zero, or an integer that is near.
 #[derive(Clone, Copy)]
@@ -38,7 +35,7 @@ fn integer_by(rounding: Rounding, n: i128) -> Result<Atom, Code>
 fn whole(n: i128) -> Result<Atom, Code>
     ensures { result ≡ decimal_of n }
 {
-    match n.checked_mul(ONE) {
+    match n.checked_mul(UNITS) {
         Some(units) => Ok(Atom::Dec(Dec(units))),
         None => Err(Code::Foar0002),
     }

@@ -8,10 +8,7 @@ ghost use Rattle.sx_fn_seq.specs.Seeing.{Adds, IsEmpty};
 
 use std::alloc::{AllocError, Global};
 use std::collections::BTreeSet;
-use sx_atoms::Atom;
-
-// How many units of a decimal make one.
-const ONE: i128 = 1_000_000_000;
+use sx_atoms::{Atom, UNITS};
 
 /// Values that were seen, each once: numbers by their units where these are in the range of a decimal, the other integers,
 /// texts and truth values.
@@ -27,7 +24,7 @@ pub struct Seen<'a> {
 fn units(n: i128) -> Option<i128>
     ensures { result ≡ (if fits (n *ℤ one) then Some (n *ℤ one) else None) }
 {
-    n.checked_mul(ONE)
+    n.checked_mul(UNITS)
 }
 
 impl<'a> Seen<'a> {

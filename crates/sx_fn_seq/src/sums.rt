@@ -2,9 +2,9 @@
 ghost use Rattle.std.specs.Prelude.{◌≡◌, IfOk};
 ghost use Rattle.sx_fn_seq.specs.Sums.{with_item, total_of, mean_of, average_of};
 
-use crate::answers::one;
 use sqlite_items::Items;
 use std::alloc::{AllocError, Global};
+use sx_atoms::answers::single;
 use sx_atoms::{Atom, Atoms, Code, add, div};
 
 // A sum and one item more.
@@ -43,7 +43,7 @@ pub fn average(alloc: Global, items: &[Atom]) -> Result<Result<Atoms, Code>, All
     match items {
         [] => Ok(Ok(Items::new(alloc))),
         [_, ..] => match mean(items) {
-            Ok(average) => Ok(Ok(one(alloc, average)?)),
+            Ok(average) => Ok(Ok(single(alloc, average)?)),
             Err(code) => Ok(Err(code)),
         },
     }

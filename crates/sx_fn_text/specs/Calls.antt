@@ -1,8 +1,8 @@
 -- What a function on texts answers (XPath functions and operators 3.1, 5 and 2.3). Texts are the characters of their bytes.
-use Rattle.std.specs.Prelude.{ℕ, Bool, nat_eq, List, [], ◌∷◌, ◌++◌, map, length, slice_get, unwrap_or, Result, Ok, Err, pos}
+use Rattle.std.specs.Prelude.{ℕ, Bool, nat_eq, List, [], ◌∷◌, ◌++◌, map, length, slice_get, Result, Ok, Err, pos}
 use Rattle.std.specs.List.{starts_with, ends_with}
 use Rattle.std.specs.Str.{chars, encode_utf8_all}
-use Rattle.sx_atoms.specs.Arguments.{text_argument}
+use Rattle.sx_atoms.specs.Arguments.{argument, text_argument}
 use Rattle.sx_atoms.specs.Positions.{selects, span_of, at_positions}
 use Rattle.sx_atoms.specs.Numbers.{◌>>=◌}
 use Rattle.sx_atoms.specs.Printing.{text_of}
@@ -13,10 +13,6 @@ use Rattle.sx_atoms.specs.declared.error_codes.Code.TheVariants as code
 use Rattle.sx_atoms.specs.declared.functions.TextFn.{TextFn}
 use Rattle.sx_atoms.specs.declared.functions.TextFn.TheVariants as fn
 use Rattle.sx_fn_text.specs.Characters.{joined, normalized, is_within, before, after, translated}
-
--- an argument, the first one of which has place 0: an empty one where it is missing
-abbrev pub argument : List (List Atom) → ℕ → List Atom
-argument args n = unwrap_or (slice_get args n) []
 
 -- the characters of an argument that is a text
 abbrev pub text_at : List (List Atom) → ℕ → Result (List ℕ) Code

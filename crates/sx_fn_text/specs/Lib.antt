@@ -3,3 +3,4 @@ pub mod Characters
 pub mod Laws
 pub mod Pieces
 pub mod Signatures
+pub mod Tables

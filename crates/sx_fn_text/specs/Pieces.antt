@@ -8,12 +8,12 @@ use Rattle.sx_atoms.specs.declared.error_codes.Code.{Code}
 use Rattle.sx_fn_text.specs.Calls.{printed, concatenated}
 
 -- a character behind others, and a space before it where it stands apart
-abbrev pub onto : List ℕ → Bool → ℕ → List ℕ
-onto cs apart c = if apart then cs ++ 32 ∷ c ∷ [] else cs ++ c ∷ []
+abbrev pub extended : List ℕ → Bool → ℕ → List ℕ
+extended cs apart c = if apart then cs ++ 32 ∷ c ∷ [] else cs ++ c ∷ []
 
 -- the words so far after one more character of a text
 abbrev pub next_text : List ℕ → Bool → ℕ → List ℕ
-next_text cs apart c = if is_blank c then cs else onto cs apart c
+next_text cs apart c = if is_blank c then cs else extended cs apart c
 
 -- whether there is a word so far
 abbrev pub is_begun : List ℕ → Bool
@@ -26,7 +26,8 @@ next_apart cs c = if is_blank c then is_begun cs else false
 
 -- the second bytes are the first ones and what is printed of an argument
 abbrev pub IsPrinted : List Atom → List ℕ → List ℕ → Type 0
-IsPrinted atoms before after = (bytes : List ℕ) × (printed atoms ≡ Ok bytes) × (after ≡ before ++ encode_utf8_all (chars bytes))
+IsPrinted atoms before after =
+    (bytes : List ℕ) × (printed atoms ≡ Ok bytes) × (after ≡ before ++ encode_utf8_all (chars bytes))
 
 -- the bytes of what is printed of arguments
 abbrev pub bytes_concatenated : List (List Atom) → Result (List ℕ) Code

@@ -1,6 +1,5 @@
 // Calls of the functions on texts.
 ghost use Rattle.std.specs.Prelude.{◌≡◌, ◌≤◌, ◌∷◌, [], length, slice_get, Ok, Err, IsTrue, IfOk, MatchResult};
-ghost use Rattle.std.specs.Option.{option_copied};
 ghost use Rattle.std.specs.Str.{chars};
 ghost use Rattle.sx_atoms.specs.Signature.{allows};
 ghost use Rattle.sx_atoms.specs.declared.functions.TextFn.TheVariants as fn_of;
@@ -9,56 +8,29 @@ ghost use Rattle.sx_fn_text.specs.Calls.{text_call};
 ghost use Rattle.sx_fn_text.specs.Signatures.{signature_of};
 
 use crate::{characters, pieces, places};
-use sqlite_items::Items;
 use std::alloc::{AllocError, Global};
-use sx_atoms::arguments::{positions, text};
+use sx_atoms::answers::answered;
+use sx_atoms::arguments::{argument, given, positions, text};
 use sx_atoms::{Args, Atom, Atoms, Code, Text, TextFn, print};
 
 // What a call answers: atoms or the code of an error.
 type Answer = Result<Result<Atoms, Code>, AllocError>;
 
-// An argument: an empty one where it is missing.
-fn argument(args: &Args, at: usize) -> &[Atom]
-    ensures { result.now ≡ spec.argument args.now at }
-{
-    match args.get(at) {
-        Some(atoms) => atoms.as_slice(),
-        None => &[],
-    }
-}
-
-// The third argument, where there is one.
-fn third(args: &Args) -> Option<&[Atom]>
-    ensures { option_copied result ≡ slice_get args.now 2 }
-{
-    match args.get(2) {
-        Some(atoms) => Some(atoms.as_slice()),
-        None => None,
-    }
-}
-
 // An argument as a text.
 fn text_at(args: &Args, at: usize) -> Result<&str, Code>
-    ensures { MatchResult result (λ s. spec.text_at args.now at ≡ Ok (chars s.now)) (λ e. spec.text_at args.now at ≡ Err e) }
+    ensures { MatchResult result
+        (λ s. spec.text_at args.now at ≡ Ok (chars s.now))
+        (λ e. spec.text_at args.now at ≡ Err e) }
 {
     text(argument(args, at))
-}
-
-// One atom as the answer of a call.
-fn one(alloc: Global, atom: Atom) -> Answer
-    ensures { IfOk result (λ answer. answer ≡ Ok (atom ∷ [])) }
-{
-    let mut atoms = Items::new(alloc);
-    atoms.push(atom)?;
-    Ok(Ok(atoms))
 }
 
 fn string(alloc: Global, args: &Args) -> Answer
     ensures { IfOk result (λ answer. answer ≡ text_call fn_of.String args.now) }
 {
     match argument(args, 0) {
-        [] => one(alloc, Atom::Str(Text::new(alloc))),
-        [atom] => one(alloc, Atom::Str(print(alloc, atom)?)),
+        [] => answered(alloc, Ok(Atom::Str(Text::new(alloc)))),
+        [atom] => answered(alloc, Ok(Atom::Str(print(alloc, atom)?))),
         _ => Ok(Err(Code::Xpty0004)),
     }
 }
@@ -67,7 +39,7 @@ fn string_length(alloc: Global, args: &Args) -> Answer
     ensures { IfOk result (λ answer. answer ≡ text_call fn_of.StringLength args.now) }
 {
     match text_at(args, 0) {
-        Ok(s) => one(alloc, Atom::Int(characters::length(s) as i128)),
+        Ok(s) => answered(alloc, Ok(Atom::Int(characters::length(s) as i128))),
         Err(code) => Ok(Err(code)),
     }
 }
@@ -76,7 +48,7 @@ fn normalize_space(alloc: Global, args: &Args) -> Answer
     ensures { IfOk result (λ answer. answer ≡ text_call fn_of.NormalizeSpace args.now) }
 {
     match text_at(args, 0) {
-        Ok(s) => one(alloc, Atom::Str(pieces::normalized(alloc, s)?)),
+        Ok(s) => answered(alloc, Ok(Atom::Str(pieces::normalized(alloc, s)?))),
         Err(code) => Ok(Err(code)),
     }
 }
@@ -85,7 +57,7 @@ fn concat(alloc: Global, args: &Args) -> Answer
     ensures { IfOk result (λ answer. answer ≡ text_call fn_of.Concat args.now) }
 {
     match pieces::concat(alloc, args.as_slice())? {
-        Ok(text) => one(alloc, Atom::Str(text)),
+        Ok(text) => answered(alloc, Ok(Atom::Str(text))),
         Err(code) => Ok(Err(code)),
     }
 }
@@ -96,7 +68,7 @@ fn string_join(alloc: Global, args: &Args) -> Answer
     match text_at(args, 1) {
         Ok(separator) => {
             let text = pieces::join(alloc, argument(args, 0), separator)?;
-            one(alloc, Atom::Str(text))
+            answered(alloc, Ok(Atom::Str(text)))
         }
         Err(code) => Ok(Err(code)),
     }
@@ -104,7 +76,9 @@ fn string_join(alloc: Global, args: &Args) -> Answer
 
 // The first two arguments as texts.
 fn two_texts(args: &Args) -> Result<(&str, &str), Code>
-    ensures { MatchResult result (λ p. spec.two_texts args.now ≡ Ok (chars p.0.now, chars p.1.now)) (λ e. spec.two_texts args.now ≡ Err e) }
+    ensures { MatchResult result
+        (λ p. spec.two_texts args.now ≡ Ok (chars p.0.now, chars p.1.now))
+        (λ e. spec.two_texts args.now ≡ Err e) }
 {
     match (text_at(args, 0), text_at(args, 1)) {
         (Ok(s), Ok(t)) => Ok((s, t)),
@@ -117,7 +91,7 @@ fn contains(alloc: Global, args: &Args) -> Answer
     ensures { IfOk result (λ answer. answer ≡ text_call fn_of.Contains args.now) }
 {
     match two_texts(args) {
-        Ok((s, t)) => one(alloc, Atom::Bool(places::is_within(t, s))),
+        Ok((s, t)) => answered(alloc, Ok(Atom::Bool(places::is_within(t, s)))),
         Err(code) => Ok(Err(code)),
     }
 }
@@ -126,7 +100,7 @@ fn starts_with(alloc: Global, args: &Args) -> Answer
     ensures { IfOk result (λ answer. answer ≡ text_call fn_of.StartsWith args.now) }
 {
     match two_texts(args) {
-        Ok((s, t)) => one(alloc, Atom::Bool(places::begins(s, t))),
+        Ok((s, t)) => answered(alloc, Ok(Atom::Bool(places::begins(s, t)))),
         Err(code) => Ok(Err(code)),
     }
 }
@@ -135,7 +109,7 @@ fn ends_with(alloc: Global, args: &Args) -> Answer
     ensures { IfOk result (λ answer. answer ≡ text_call fn_of.EndsWith args.now) }
 {
     match two_texts(args) {
-        Ok((s, t)) => one(alloc, Atom::Bool(places::ends(s, t))),
+        Ok((s, t)) => answered(alloc, Ok(Atom::Bool(places::ends(s, t)))),
         Err(code) => Ok(Err(code)),
     }
 }
@@ -144,7 +118,10 @@ fn substring_before(alloc: Global, args: &Args) -> Answer
     ensures { IfOk result (λ answer. answer ≡ text_call fn_of.SubstringBefore args.now) }
 {
     match two_texts(args) {
-        Ok((s, t)) => one(alloc, Atom::Str(Text::copy(alloc, places::before(s, t))?)),
+        Ok((s, t)) => answered(
+            alloc,
+            Ok(Atom::Str(Text::copy(alloc, places::before(s, t))?)),
+        ),
         Err(code) => Ok(Err(code)),
     }
 }
@@ -153,7 +130,10 @@ fn substring_after(alloc: Global, args: &Args) -> Answer
     ensures { IfOk result (λ answer. answer ≡ text_call fn_of.SubstringAfter args.now) }
 {
     match two_texts(args) {
-        Ok((s, t)) => one(alloc, Atom::Str(Text::copy(alloc, places::after(s, t))?)),
+        Ok((s, t)) => answered(
+            alloc,
+            Ok(Atom::Str(Text::copy(alloc, places::after(s, t))?)),
+        ),
         Err(code) => Ok(Err(code)),
     }
 }
@@ -165,8 +145,8 @@ fn substring(alloc: Global, args: &Args) -> Answer
         Ok(s) => s,
         Err(code) => return Ok(Err(code)),
     };
-    match positions(alloc, argument(args, 1), third(args))? {
-        Ok(span) => one(alloc, Atom::Str(characters::cut(alloc, s, &span)?)),
+    match positions(alloc, argument(args, 1), given(args, 2))? {
+        Ok(span) => answered(alloc, Ok(Atom::Str(characters::cut(alloc, s, &span)?))),
         Err(code) => Ok(Err(code)),
     }
 }
@@ -179,7 +159,10 @@ fn translate(alloc: Global, args: &Args) -> Answer
         Err(code) => return Ok(Err(code)),
     };
     match text_at(args, 2) {
-        Ok(t) => one(alloc, Atom::Str(characters::translated(alloc, s, m, t)?)),
+        Ok(t) => answered(
+            alloc,
+            Ok(Atom::Str(characters::translated(alloc, s, m, t)?)),
+        ),
         Err(code) => Ok(Err(code)),
     }
 }

@@ -7,14 +7,17 @@ ghost use Rattle.sx_fn_text.specs.Laws.{text, integer};
 
 /// A text that is put together is as long as its parts.
 pub fn lengths()
-    ensures { (s t u : List ℕ) → IsUtf8 s → IsUtf8 t → text_call fn_of.Concat (text s ∷ text t ∷ []) ≡ Ok (text u)
+    ensures { (s t u : List ℕ) → IsUtf8 s → IsUtf8 t
+        → text_call fn_of.Concat (text s ∷ text t ∷ []) ≡ Ok (text u)
         → text_call fn_of.StringLength (text u ∷ []) ≡ Ok (integer (length (chars s) + length (chars t))) }
 {}
 
 /// What stands before the first place of a text, that text and what stands behind it are the whole.
 pub fn parts()
-    ensures { (s t b a : List ℕ) → IsUtf8 s → IsUtf8 t → text_call fn_of.Contains (text s ∷ text t ∷ []) ≡ Ok (truth true)
-        → text_call fn_of.SubstringBefore (text s ∷ text t ∷ []) ≡ Ok (text b) → text_call fn_of.SubstringAfter (text s ∷ text t ∷ []) ≡ Ok (text a)
+    ensures { (s t b a : List ℕ) → IsUtf8 s → IsUtf8 t
+        → text_call fn_of.Contains (text s ∷ text t ∷ []) ≡ Ok (truth true)
+        → text_call fn_of.SubstringBefore (text s ∷ text t ∷ []) ≡ Ok (text b)
+        → text_call fn_of.SubstringAfter (text s ∷ text t ∷ []) ≡ Ok (text a)
         → b ++ (t ++ a) ≡ s }
 {}
 
@@ -25,5 +28,6 @@ pub fn whole()
 
 /// A text that is translated by two equal texts stays as it is.
 pub fn unchanged()
-    ensures { (s m : List ℕ) → IsUtf8 s → text_call fn_of.Translate (text s ∷ text m ∷ text m ∷ []) ≡ Ok (text s) }
+    ensures { (s m : List ℕ) → IsUtf8 s
+        → text_call fn_of.Translate (text s ∷ text m ∷ text m ∷ []) ≡ Ok (text s) }
 {}

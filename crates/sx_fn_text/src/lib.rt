@@ -7,6 +7,7 @@ pub mod laws;
 mod pieces;
 mod places;
 mod signatures;
+mod tables;
 
 pub use calls::call_text;
 pub use signatures::signature_text;

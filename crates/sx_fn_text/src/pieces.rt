@@ -5,7 +5,7 @@ ghost use Rattle.sx_atoms.specs.Lexical as lexical;
 ghost use Rattle.sx_atoms.specs.Printing.{text_of};
 ghost use Rattle.sx_fn_text.specs.Calls.{printed, prints_joined};
 ghost use Rattle.sx_fn_text.specs.Characters as spec;
-ghost use Rattle.sx_fn_text.specs.Pieces.{onto, next_text, next_apart, IsPrinted, bytes_concatenated};
+ghost use Rattle.sx_fn_text.specs.Pieces.{extended, next_text, next_apart, IsPrinted, bytes_concatenated};
 
 use std::alloc::{AllocError, Global};
 use sx_atoms::{Atom, Atoms, Code, Text, print};
@@ -18,7 +18,8 @@ fn is_blank(c: char) -> bool
 
 // Appends a character, and a space before it where it stands apart.
 fn append(out: &mut String, apart: bool, c: char) -> Result<(), AllocError>
-    ensures { OnOk result ((cs : List ℕ) → string_bytes out.old ≡ encode_utf8_all cs → string_bytes out.new ≡ encode_utf8_all (onto cs apart c)) }
+    ensures { OnOk result ((cs : List ℕ) → string_bytes out.old ≡ encode_utf8_all cs
+        → string_bytes out.new ≡ encode_utf8_all (extended cs apart c)) }
 {
     if apart {
         out.push(' ')?;
@@ -30,8 +31,10 @@ fn append(out: &mut String, apart: bool, c: char) -> Result<(), AllocError>
 
 // Puts one more character of a text behind its words so far. The answer is whether white space came behind the last word.
 fn put(out: &mut String, apart: bool, c: char) -> Result<bool, AllocError>
-    ensures text { OnOk result ((cs : List ℕ) → string_bytes out.old ≡ encode_utf8_all cs → string_bytes out.new ≡ encode_utf8_all (next_text cs apart c)) }
-    ensures apart { IfOk result (λ a. (cs : List ℕ) → string_bytes out.old ≡ encode_utf8_all cs → a ≡ next_apart cs c) }
+    ensures text { OnOk result ((cs : List ℕ) → string_bytes out.old ≡ encode_utf8_all cs
+        → string_bytes out.new ≡ encode_utf8_all (next_text cs apart c)) }
+    ensures apart { IfOk result (λ a. (cs : List ℕ) → string_bytes out.old ≡ encode_utf8_all cs
+        → a ≡ next_apart cs c) }
 {
     if is_blank(c) {
         return Ok(!out.is_empty());
@@ -54,7 +57,8 @@ pub fn normalized(alloc: Global, s: &str) -> Result<Text, AllocError>
 
 // Appends what is printed of an atom.
 fn append_print(alloc: Global, out: &mut String, atom: &Atom) -> Result<(), AllocError>
-    ensures { OnOk result (string_bytes out.new ≡ string_bytes out.old ++ encode_utf8_all (chars (text_of atom.now))) }
+    ensures { OnOk result (string_bytes out.new
+        ≡ string_bytes out.old ++ encode_utf8_all (chars (text_of atom.now))) }
 {
     match atom {
         Atom::Str(text) | Atom::Untyped(text) => out.push_str(text.as_str()),
@@ -87,7 +91,9 @@ fn append_argument(
     out: &mut String,
     atoms: &[Atom],
 ) -> Result<Result<(), Code>, AllocError>
-    ensures { IfOk result (λ answer. MatchResult answer (λ _. IsPrinted atoms.now (string_bytes out.old) (string_bytes out.new)) (λ e. printed atoms.now ≡ Err e)) }
+    ensures { IfOk result (λ answer. MatchResult answer
+        (λ _. IsPrinted atoms.now (string_bytes out.old) (string_bytes out.new))
+        (λ e. printed atoms.now ≡ Err e)) }
 {
     match atoms {
         [] => Ok(Ok(())),

@@ -1,5 +1,8 @@
-use Rattle.std.proofs.Common.{◌≡◌, take, reverse}
+use Rattle.std.proofs.Common.{◌≡◌, ◌-◌, length, take, reverse}
 use Rattle.sx_fn_seq.proofs.parts.reversed.Given as goal
 
-abbrev pub invariant-loop-at : goal.invariant-loop-at
-invariant-loop-at l = l.atoms ≡ take l.at (reverse l.items)
+abbrev pub invariant-loop-item : goal.invariant-loop-item
+invariant-loop-item l = l.atoms ≡ take (length l.atoms) (reverse l.items)
+
+abbrev pub decreases-loop-item : goal.decreases-loop-item
+decreases-loop-item l = length l.items - length l.atoms
