@@ -8,3 +8,4 @@ pub mod Colons
 pub mod Readings
 pub mod Unique
 pub mod Breaks
+pub mod EachText

@@ -1,12 +1,13 @@
 // What a caller relies on, said of the definitions.
-ghost use Rattle.std.specs.Prelude.{◌≡◌, ℕ, List, take};
+ghost use Rattle.std.specs.Prelude.{◌≡◌, ◌⊎◌, ℕ, List, take};
 ghost use Rattle.std.specs.Str.{IsCharBoundary, IsUtf8};
 ghost use Rattle.sx_lex.specs.Laws.{AreCuts, AreSpans};
 ghost use Rattle.sx_lex.specs.Tokens.{AreTokens, BreaksAt, BreaksBehind};
 ghost use Rattle.sx_lex.specs.declared.kinds.Token.{Token as AnyToken};
 
-/// A text has one list of tokens at most; it has none where it breaks, and it breaks at one offset only.
+/// A text has tokens, or it breaks, and not both; it has one list of tokens at most, and it breaks at one offset only.
 pub fn one_reading()
+    ensures some { (text : List ℕ) → ((ts : List AnyToken) × AreTokens 0 text ts) ⊎ ((offset : ℕ) × BreaksAt 0 text offset) }
     ensures tokens { (text : List ℕ) (ts us : List AnyToken) → AreTokens 0 text ts → AreTokens 0 text us → ts ≡ us }
     ensures either { (text : List ℕ) (ts : List AnyToken) (offset : ℕ) → AreTokens 0 text ts → BreaksAt 0 text offset → ⊥ }
     ensures offset { (text : List ℕ) (m n : ℕ) → BreaksAt 0 text m → BreaksAt 0 text n → m ≡ n }

@@ -4,7 +4,8 @@ use Rattle.std.proofs.Math.Seq.{drop-cons}
 use Rattle.std.proofs.lemmas.Bool.{cases_lt}
 use Rattle.std.proofs.lemmas.List.{drop_all}
 use Rattle.sx_lex.specs.declared.kinds.Token.{Token}
-use Rattle.sx_parse.specs.Checks.{Bindings, role_fault, fault_at, first_fault}
+use Rattle.sx_names.specs.Scope.{ScopeBindings}
+use Rattle.sx_parse.specs.Checks.{role_fault, fault_at, first_fault}
 use Rattle.sx_parse.specs.declared.roles.Role.{Role}
 
 -- a list from one place on
@@ -12,7 +13,7 @@ pub cut_at : {X : Type 0} (xs : List X) (k : ℕ) (x : X) → k < length xs → 
 cut_at xs k x within is =
     drop-cons xs k x within ∙ ap (λ y. y ∷ drop (suc k) xs) (sym (is x)) ∙ ap (λ (n : ℕ). x ∷ drop n xs) (let e : suc k ≡ k + 1 = omega arith in e)
 
-module _ (pattern : Bool) (scope : Bindings) (text : List ℕ) (all : List Token) where
+module _ (pattern : Bool) (scope : ScopeBindings) (text : List ℕ) (all : List Token) where
   -- the faults from one place on are that of the token there, or else those behind it
   pub fault_step : (rs : List Role) (ts : List Token) (k : ℕ) (r : Role) (t : Token) → k < length rs → k < length ts → ((d : Role) → r ≡ get_or rs k d) → ((d : Token) → t ≡ get_or ts k d)
       → first_fault pattern scope text all (drop k rs) (drop k ts)

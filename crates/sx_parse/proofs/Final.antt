@@ -75,7 +75,7 @@ whole_read p ts s t b e =
     record { tree = t; derives = x.derives; nodes_are = x.nodes_are; roles_are = x.roles_are }
 
 -- reading stopped behind k tokens
-stopped : (p : Bool) (ts : List Lexeme) (k : ℕ) (s : State) → k ≤ length ts → Behind p (take k ts) s → IsFault p ts k → IsStopped p ts k (state_roles s)
+pub stopped : (p : Bool) (ts : List Lexeme) (k : ℕ) (s : State) → k ≤ length ts → Behind p (take k ts) s → IsFault p ts k → IsStopped p ts k (state_roles s)
 stopped p ts k s within b f =
     let x = reached (take k ts) (start p) s tt b in
     let e = state_can_end s in

@@ -33,5 +33,7 @@ pub mod Counted
 pub mod Raising
 pub mod Unions
 pub mod Bounds
+pub mod EachText
+pub mod Formed
 pub mod Within
 pub mod Turning

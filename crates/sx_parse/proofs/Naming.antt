@@ -9,7 +9,8 @@ use Rattle.std.specs.declared.alloc.AllocError.{AllocError}
 use Rattle.sx_lex.specs.declared.kinds.Token.{Token}
 use Rattle.sx_names.specs.Numbering.{IsDistinct, IsNumbered}
 use Rattle.sx_chars.specs.Names.{local_of}
-use Rattle.sx_parse.specs.Checks.{Bindings, name_uri, or_none}
+use Rattle.sx_names.specs.Scope.{ScopeBindings}
+use Rattle.sx_parse.specs.Checks.{name_uri, or_none}
 use Rattle.sx_parse.specs.Lexemes.{text_of}
 use Rattle.sx_parse.specs.Naming.{names_with, number_with}
 use Rattle.sx_parse.specs.Numbers.{Name, same_name, number_in, is_in, with_name, with_names, expanded, names_among, numbers_among}
@@ -101,7 +102,7 @@ stays : (r : Role) (names more : List Name) (x : Name) → number_with r (names_
 stays role.Name names more x = number_stays (with_name names x) more x (with_has names x)
 stays r names more x = refl
 
-module _ (scope : Bindings) (text : List ℕ) where
+module _ (scope : ScopeBindings) (text : List ℕ) where
   names_step : (names : List Name) (r : Role) (rs : List Role) (t : Token) (ts : List Token)
       → with_names names (names_among scope text (r ∷ rs) (t ∷ ts)) ≡ with_names (names_with r names (expanded scope (text_of text t))) (names_among scope text rs ts)
   names_step names role.Name rs t ts = refl
@@ -186,7 +187,7 @@ module _ (scope : Bindings) (text : List ℕ) where
 abbrev pair : List ℕ → List ℕ → Name
 pair uri local = (uri, local)
 
-module _ (scope : Bindings) (text uri local : List ℕ) (old new : List Name) (is_uri : uri ≡ or_none (name_uri scope text)) (is_local : local ≡ local_of text) where
+module _ (scope : ScopeBindings) (text uri local : List ℕ) (old new : List Name) (is_uri : uri ≡ or_none (name_uri scope text)) (is_local : local ≡ local_of text) where
   same_expanded : pair uri local ≡ expanded scope text
   same_expanded = ap (λ (u : List ℕ). pair u local) is_uri ∙ ap (pair (or_none (name_uri scope text))) is_local
 

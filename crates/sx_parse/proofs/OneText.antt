@@ -7,12 +7,13 @@ use Rattle.sx_lex.specs.Tokens.{AreTokens}
 use Rattle.sx_lex.specs.declared.kinds.Token.{Token}
 use Rattle.sx_lex.proofs.Breaks.{front_tokens}
 use Rattle.sx_lex.proofs.Unique.{same_tokens, whole_or_broken, same_offset}
+use Rattle.sx_names.specs.Scope.{ScopeBindings}
 use Rattle.sx_parse.specs.declared.faults.SyntaxFault.{SyntaxFault}
 use Rattle.sx_parse.specs.declared.lexemes.Lexeme.{Lexeme}
 use Rattle.sx_parse.specs.declared.lexemes.Lexeme.TheVariants as lexeme
 use Rattle.sx_parse.specs.declared.roles.Role.{Role}
 use Rattle.sx_parse.specs.Answers.{IsRead, IsRefused, IsUnsound, IsUnread, StopsAt, fault_in, fault_or, breaks, end_of}
-use Rattle.sx_parse.specs.Checks.{Bindings, first_fault}
+use Rattle.sx_parse.specs.Checks.{first_fault}
 use Rattle.sx_parse.specs.Grammar.{Tree, Derives, Begins, IsFault, prefix_tokens}
 use Rattle.sx_parse.specs.Lexemes.{lexemes_of}
 use Rattle.sx_parse.specs.Lexing.{AreRead}
@@ -35,7 +36,7 @@ step_reached : (o : Option State) (ls rest : List Lexeme) (t : Tree) → ((next 
 step_reached None ls rest t f e = absurd cc
 step_reached (Some next) ls rest t f e = f next e
 
-some_state : (s : State) (ls rest : List Lexeme) (t : Tree) → accept s (ls ++ rest) ≡ Some t → ((u : State) × (after s ls ≡ Some u))
+pub some_state : (s : State) (ls rest : List Lexeme) (t : Tree) → accept s (ls ++ rest) ≡ Some t → ((u : State) × (after s ls ≡ Some u))
 some_state s [] rest t e = (s, refl)
 some_state s (l ∷ ls) rest t e = step_reached (read s l) ls rest t (λ next f. some_state next ls rest t f) e
 
@@ -98,7 +99,7 @@ one_lexing text ts us (Some m) (Some n) h a b =
     let other = subst (λ (k : ℕ). AreTokens 0 (take k text) us) (sym e) (front_tokens text us n h b) in
     (ap Some e, same_tokens ts us 0 (take m text) (front_tokens text ts m h a) other)
 
-module _ (p : Bool) (scope : Bindings) (text : List ℕ) where
+module _ (p : Bool) (scope : ScopeBindings) (text : List ℕ) where
   one_derived : (ts us : List Token) (t u : Tree) → AreTokens 0 text ts → Derives p (lexemes_of text ts) t → AreTokens 0 text us → Derives p (lexemes_of text us) u →
       (ts ≡ us) × (t ≡ u)
   one_derived ts us t u a d b e =

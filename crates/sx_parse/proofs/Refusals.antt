@@ -3,12 +3,13 @@ use Rattle.std.proofs.Common.{◌≡◌, ℕ, suc, ◌<◌, ◌≤◌, ◌⊎◌
 use Rattle.std.proofs.lemmas.Bool.Decides.{nat_tests}
 use Rattle.std.proofs.lemmas.List.{take_all}
 use Rattle.sx_lex.specs.declared.kinds.Token.{Token}
+use Rattle.sx_names.specs.Scope.{ScopeBindings}
 use Rattle.sx_parse.specs.declared.faults.SyntaxFault.{SyntaxFault}
 use Rattle.sx_parse.specs.declared.lexemes.Lexeme.{Lexeme}
 use Rattle.sx_parse.specs.declared.nodes.Node.{Node}
 use Rattle.sx_parse.specs.declared.roles.Role.{Role}
 use Rattle.sx_parse.specs.Answers.{IsRefused, IsUnsound, IsUnread, StopsAt, fault_in, fault_or, breaks, end_of}
-use Rattle.sx_parse.specs.Checks.{Bindings, first_fault}
+use Rattle.sx_parse.specs.Checks.{first_fault}
 use Rattle.sx_parse.specs.Grammar.{IsFault}
 use Rattle.sx_parse.specs.Lexemes.{lexemes_of, lexemes_from}
 use Rattle.sx_parse.specs.Lexing.{IsLexed}
@@ -42,12 +43,12 @@ before_or_at false p ls k e f =
     let g : length ls ≤ k = grind (arith, nat_tests) in
     inr (omega (arith, w, g))
 
-stops_before : (p : Bool) (ls : List Lexeme) (stop : Option ℕ) (k : ℕ) → IsFault p ls k → StopsAt p ls stop k
+pub stops_before : (p : Bool) (ls : List Lexeme) (stop : Option ℕ) (k : ℕ) → IsFault p ls k → StopsAt p ls stop k
 stops_before p ls None k f = f
 stops_before p ls (Some offset) k f = before_or_at (nat_lt k (length ls)) p ls k refl f
 
 -- no reading goes on at a token
-pub unread : (p : Bool) (scope : Bindings) (text : List ℕ) (ts : List Token) (ls : List Lexeme) (stop : Option ℕ) (k : ℕ) (said : List Role) (fault : SyntaxFault) →
+pub unread : (p : Bool) (scope : ScopeBindings) (text : List ℕ) (ts : List Token) (ls : List Lexeme) (stop : Option ℕ) (k : ℕ) (said : List Role) (fault : SyntaxFault) →
     IsLexed text ts ls stop → IsStopped p ls k said → fault ≡ fault_or (first_fault p scope text ts said ts) (stopped_fault p text ts stop k) → IsUnread p scope text fault
 unread p scope text ts ls stop k said fault h r e = record {
   tokens = ts;
@@ -61,7 +62,7 @@ unread p scope text ts ls stop k said fault h r e = record {
 }
 
 -- the text breaks behind its last token
-pub broken : (p : Bool) (scope : Bindings) (text : List ℕ) (ts : List Token) (ls : List Lexeme) (offset : ℕ) (given : List Node) (said : List Role) (fault : SyntaxFault) →
+pub broken : (p : Bool) (scope : ScopeBindings) (text : List ℕ) (ts : List Token) (ls : List Lexeme) (offset : ℕ) (given : List Node) (said : List Role) (fault : SyntaxFault) →
     IsLexed text ts ls (Some offset) → IsWhole p ls given said → fault ≡ fault_or (first_fault p scope text ts said ts) (stopped_fault p text ts (Some offset) (length ts)) →
     IsUnread p scope text fault
 broken p scope text ts ls offset given said fault h r e =
@@ -84,7 +85,7 @@ broken p scope text ts ls offset given said fault h r e =
           (r.roles_are ∙ sym (take_all (length ts) (roles 0 r.tree) (omega (arith, many))));
     }
 
-pub unsound : (p : Bool) (scope : Bindings) (text : List ℕ) (ts : List Token) (ls : List Lexeme) (given : List Node) (said : List Role) (fault : SyntaxFault) →
+pub unsound : (p : Bool) (scope : ScopeBindings) (text : List ℕ) (ts : List Token) (ls : List Lexeme) (given : List Node) (said : List Role) (fault : SyntaxFault) →
     IsLexed text ts ls None → IsWhole p ls given said → first_fault p scope text ts said ts ≡ Some fault → IsUnsound p scope text fault
 unsound p scope text ts ls given said fault h r e = record {
   tokens = ts;
@@ -94,7 +95,7 @@ unsound p scope text ts ls given said fault h r e = record {
   first = ap (λ (rs : List Role). first_fault p scope text ts rs ts) (sym r.roles_are) ∙ e;
 }
 
-pub sound_text : (p : Bool) (scope : Bindings) (text : List ℕ) (ts : List Token) (ls : List Lexeme) (given : List Node) (said : List Role) →
+pub sound_text : (p : Bool) (scope : ScopeBindings) (text : List ℕ) (ts : List Token) (ls : List Lexeme) (given : List Node) (said : List Role) →
     IsLexed text ts ls None → IsWhole p ls given said → first_fault p scope text ts said ts ≡ None → IsUnderstood p scope text ts given said
 sound_text p scope text ts ls given said h r e = record {
   tree = r.tree;
@@ -111,7 +112,7 @@ sound_text p scope text ts ls given said h r e = record {
 
 -- ---- by cases
 
-pub refused_first : (p : Bool) (scope : Bindings) (text : List ℕ) (ts : List Token) (ls : List Lexeme) (given : List Node) (said : List Role) (fault : SyntaxFault)
+pub refused_first : (p : Bool) (scope : ScopeBindings) (text : List ℕ) (ts : List Token) (ls : List Lexeme) (given : List Node) (said : List Role) (fault : SyntaxFault)
     (stop stopped : Option ℕ) → IsLexed text ts ls stop → IsReadAs p ls given said stopped → first_fault p scope text ts said ts ≡ Some fault → IsRefused p scope text fault
 refused_first p scope text ts ls given said fault None None h r e = inl (unsound p scope text ts ls given said fault h r e)
 refused_first p scope text ts ls given said fault (Some offset) None h r e =
@@ -119,7 +120,7 @@ refused_first p scope text ts ls given said fault (Some offset) None h r e =
 refused_first p scope text ts ls given said fault stop (Some k) h r e =
     inr (unread p scope text ts ls stop k said fault h r (ap (λ (o : Option SyntaxFault). fault_or o (stopped_fault p text ts stop k)) (sym e)))
 
-pub refused_there : (p : Bool) (scope : Bindings) (text : List ℕ) (ts : List Token) (ls : List Lexeme) (given : List Node) (said : List Role) (count : ℕ)
+pub refused_there : (p : Bool) (scope : ScopeBindings) (text : List ℕ) (ts : List Token) (ls : List Lexeme) (given : List Node) (said : List Role) (count : ℕ)
     (stop stopped : Option ℕ) → IsLexed text ts ls stop → IsReadAs p ls given said stopped → first_fault p scope text ts said ts ≡ None →
     stop_of stopped stop (length ts) ≡ Some count → IsRefused p scope text (stopped_fault p text ts stop count)
 refused_there p scope text ts ls given said count None None h r e f = absurd cc
@@ -130,7 +131,7 @@ refused_there p scope text ts ls given said count stop (Some k) h r e f =
     let same : k ≡ count = cc in
     rw (sym same) (inr (unread p scope text ts ls stop k said _ h r (ap (λ (o : Option SyntaxFault). fault_or o (stopped_fault p text ts stop k)) (sym e))))
 
-pub read_whole : (p : Bool) (scope : Bindings) (text : List ℕ) (ts : List Token) (ls : List Lexeme) (given : List Node) (said : List Role)
+pub read_whole : (p : Bool) (scope : ScopeBindings) (text : List ℕ) (ts : List Token) (ls : List Lexeme) (given : List Node) (said : List Role)
     (stop stopped : Option ℕ) → IsLexed text ts ls stop → IsReadAs p ls given said stopped → first_fault p scope text ts said ts ≡ None →
     stop_of stopped stop (length ts) ≡ None → IsUnderstood p scope text ts given said
 read_whole p scope text ts ls given said None None h r e f = sound_text p scope text ts ls given said h r e

@@ -7,12 +7,13 @@ use Rattle.sx_kinds.specs.declared.expressions.AvtPart.TheVariants as avt_part
 use Rattle.sx_kinds.specs.declared.expressions.Expr.{Expr}
 use Rattle.sx_names.proofs.Places.{KeepsPlaces-trans}
 use Rattle.sx_names.specs.Numbering.{KeepsPlaces}
+use Rattle.sx_names.specs.Scope.{ScopeBindings}
 use Rattle.sx_parse.specs.declared.faults.Numbering.{Numbering}
 use Rattle.sx_parse.specs.declared.faults.SyntaxFault.{SyntaxFault}
 use Rattle.sx_parse.specs.declared.templates.Next.TheVariants as next
 use Rattle.sx_parse.specs.declared.value_templates.Turn.TheVariants as turn
 use Rattle.sx_parse.specs.Answers.{IsRefused, is_too_long}
-use Rattle.sx_parse.specs.Checks.{Bindings, most_bytes}
+use Rattle.sx_parse.specs.Checks.{most_bytes}
 use Rattle.sx_parse.specs.Numbers.{Name}
 use Rattle.sx_parse.specs.Parsed.{AreParts, AreRead, IsRefusedInside, IsSaid, IsTemplate, IsUnmatched, shifted}
 use Rattle.sx_parse.specs.Templates.{Piece, fixed, inner, all_written, written, Breaks, IsNext}
@@ -22,7 +23,7 @@ use Rattle.sx_parse.proofs.Pieces.{inner_of, inner_is}
 
 -- ---- one piece more
 
-fixed_push : (scope : Bindings) (line : ℕ) (ps : List Piece) (old : List Name) (n : ℕ) (parts : List AvtPart) (new : List Name) (m : ℕ) (text : List ℕ) →
+fixed_push : (scope : ScopeBindings) (line : ℕ) (ps : List Piece) (old : List Name) (n : ℕ) (parts : List AvtPart) (new : List Name) (m : ℕ) (text : List ℕ) →
     AreParts scope line ps old n parts new m → AreParts scope line (ps ++ fixed text ∷ []) old n (parts ++ avt_part.Fixed text ∷ []) new m
 fixed_push scope line [] old n [] new m text h = (refl, (refl, h.1, h.2))
 fixed_push scope line [] old n (part ∷ parts) new m text h = absurd (let never = h.0 in cc)
@@ -32,7 +33,7 @@ fixed_push scope line (inner t ∷ ps) old n [] new m text h = absurd h
 fixed_push scope line (inner t ∷ ps) old n (part ∷ parts) new m text h =
     (h.0, h.1, h.2, h.3, h.4, fixed_push scope line ps h.1 h.2 parts new m text h.5)
 
-inner_push : (scope : Bindings) (line : ℕ) (ps : List Piece) (old : List Name) (n : ℕ) (parts : List AvtPart) (new : List Name) (m : ℕ)
+inner_push : (scope : ScopeBindings) (line : ℕ) (ps : List Piece) (old : List Name) (n : ℕ) (parts : List AvtPart) (new : List Name) (m : ℕ)
     (text : List ℕ) (names : List Name) (k : ℕ) (e : Expr) → AreParts scope line ps old n parts new m → IsSaid scope text line new m names k e →
     AreParts scope line (ps ++ inner text ∷ []) old n (parts ++ avt_part.Inner e ∷ []) names k
 inner_push scope line [] old n [] new m text names k e h said =
@@ -45,14 +46,14 @@ inner_push scope line (inner t ∷ ps) old n [] new m text names k e h said = ab
 inner_push scope line (inner t ∷ ps) old n (part ∷ parts) new m text names k e h said =
     (h.0, h.1, h.2, h.3, h.4, inner_push scope line ps h.1 h.2 parts new m text names k e h.5 said)
 
-read_push : (scope : Bindings) (ps : List Piece) (p : Piece) → AreRead scope ps → AreRead scope (p ∷ []) → AreRead scope (ps ++ p ∷ [])
+read_push : (scope : ScopeBindings) (ps : List Piece) (p : Piece) → AreRead scope ps → AreRead scope (p ∷ []) → AreRead scope (ps ++ p ∷ [])
 read_push scope [] p h one = one
 read_push scope (fixed t ∷ ps) p h one = read_push scope ps p h one
 read_push scope (inner t ∷ ps) p h one = (h.0, read_push scope ps p h.1 one)
 
 -- ---- turns
 
-pub read_begins : (scope : Bindings) (text : List ℕ) (line : ℕ) (old : List Name) (n : ℕ) → IsUtf8 text → IsReadTo scope text line old n 0 [] old n
+pub read_begins : (scope : ScopeBindings) (text : List ℕ) (line : ℕ) (old : List Name) (n : ℕ) → IsUtf8 text → IsReadTo scope text line old n 0 [] old n
 read_begins scope text line old n utf8 = record {
   pieces = [];
   cut = cut_begins text utf8;
@@ -63,7 +64,7 @@ read_begins scope text line old n utf8 = record {
 }
 
 -- fixed text stands next
-pub turn_fixed : (scope : Bindings) (text : List ℕ) (line : ℕ) (old : List Name) (n offset : ℕ) (parts : List AvtPart) (new : List Name) (m : ℕ)
+pub turn_fixed : (scope : ScopeBindings) (text : List ℕ) (line : ℕ) (old : List Name) (n offset : ℕ) (parts : List AvtPart) (new : List Name) (m : ℕ)
     (fixed_text : List ℕ) (end : ℕ) → IsNext text offset (next.Fixed fixed_text end) → IsReadTo scope text line old n offset parts new m →
     IsReadTo scope text line old n end (parts ++ avt_part.Fixed fixed_text ∷ []) new m
 turn_fixed scope text line old n offset parts new m fixed_text end found h =
@@ -78,7 +79,7 @@ turn_fixed scope text line old n offset parts new m fixed_text end found h =
     }
 
 -- the text of an expression stands next, and is read
-pub turn_inner : (scope : Bindings) (text : List ℕ) (line : ℕ) (old : List Name) (n offset : ℕ) (parts : List AvtPart) (new : List Name) (m : ℕ)
+pub turn_inner : (scope : ScopeBindings) (text : List ℕ) (line : ℕ) (old : List Name) (n offset : ℕ) (parts : List AvtPart) (new : List Name) (m : ℕ)
     (start end : ℕ) (names : List Name) (k : ℕ) (e : Expr) → IsNext text offset (next.Inner start end) → IsReadTo scope text line old n offset parts new m →
     IsSaid scope (inner_of text start end) line new m names k e → k ≤ m + 2 * length (inner_of text start end) →
     IsReadTo scope text line old n (end + 1) (parts ++ avt_part.Inner e ∷ []) names k
@@ -99,7 +100,7 @@ turn_inner scope text line old n offset parts new m start end names k e found h 
     })
 
 -- the text of an expression stands next, and is refused
-pub turn_refused : (scope : Bindings) (text : List ℕ) (line : ℕ) (old : List Name) (n offset : ℕ) (parts : List AvtPart) (new : List Name) (m : ℕ)
+pub turn_refused : (scope : ScopeBindings) (text : List ℕ) (line : ℕ) (old : List Name) (n offset : ℕ) (parts : List AvtPart) (new : List Name) (m : ℕ)
     (start end : ℕ) (inside : SyntaxFault) → IsNext text offset (next.Inner start end) → IsReadTo scope text line old n offset parts new m →
     IsRefused false scope (inner_of text start end) inside → IsRefusedInside scope text (shifted start inside)
 turn_refused scope text line old n offset parts new m start end inside found h refusal = record {
@@ -116,7 +117,7 @@ turn_refused scope text line old n offset parts new m start end inside found h r
 }
 
 -- a brace stands next that nothing matches
-pub turn_unmatched : (scope : Bindings) (text : List ℕ) (line : ℕ) (old : List Name) (n offset : ℕ) (parts : List AvtPart) (new : List Name) (m : ℕ)
+pub turn_unmatched : (scope : ScopeBindings) (text : List ℕ) (line : ℕ) (old : List Name) (n offset : ℕ) (parts : List AvtPart) (new : List Name) (m : ℕ)
     (fault : SyntaxFault) → IsNext text offset (next.Fault fault) → IsReadTo scope text line old n offset parts new m → IsUnmatched scope text fault
 turn_unmatched scope text line old n offset parts new m fault found h = record {
   pieces = h.pieces;
@@ -130,12 +131,12 @@ turn_unmatched scope text line old n offset parts new m fault found h = record {
 -- ---- all turns
 
 -- between turns
-pub record IsTurning (scope : Bindings) (text : List ℕ) (old names : List Name) (first at : Numbering) (offset : ℕ) (parts : List AvtPart) : Type 0 where
+pub record IsTurning (scope : ScopeBindings) (text : List ℕ) (old names : List Name) (first at : Numbering) (offset : ℕ) (parts : List AvtPart) : Type 0 where
   pub read : IsReadTo scope text at.line old first.next offset parts names at.next
   pub line : at.line ≡ first.line
   pub kept : KeepsPlaces old names
 
-pub turning_begins : (scope : Bindings) (text : List ℕ) (names : List Name) (at : Numbering) (parts : List AvtPart) → IsUtf8 text → parts ≡ [] →
+pub turning_begins : (scope : ScopeBindings) (text : List ℕ) (names : List Name) (at : Numbering) (parts : List AvtPart) → IsUtf8 text → parts ≡ [] →
     IsTurning scope text names names at at 0 parts
 turning_begins scope text names at parts utf8 none = record {
   read = subst (λ (ps : List AvtPart). IsReadTo scope text at.line names at.next 0 ps names at.next) (sym none) (read_begins scope text at.line names at.next utf8);
@@ -144,7 +145,7 @@ turning_begins scope text names at parts utf8 none = record {
 }
 
 -- what a turn leaves
-pub turning_goes_on : (scope : Bindings) (text : List ℕ) (old names more : List Name) (first at after : Numbering) (offset end : ℕ) (parts pushed : List AvtPart) →
+pub turning_goes_on : (scope : ScopeBindings) (text : List ℕ) (old names more : List Name) (first at after : Numbering) (offset end : ℕ) (parts pushed : List AvtPart) →
     IsTurning scope text old names first at offset parts → after.line ≡ at.line → KeepsPlaces names more →
     Turns scope text at.line old first.next offset (turn.Behind end) pushed more after.next → IsTurning scope text old more first after end pushed
 turning_goes_on scope text old names more first at after offset end parts pushed h line kept turned = record {
@@ -154,7 +155,7 @@ turning_goes_on scope text old names more first at after offset end parts pushed
 }
 
 -- all is read
-pub all_read : (scope : Bindings) (text : List ℕ) (old names new : List Name) (first at after : Numbering) (offset : ℕ) (parts pushed : List AvtPart) → length text ≤ most_bytes →
+pub all_read : (scope : ScopeBindings) (text : List ℕ) (old names new : List Name) (first at after : Numbering) (offset : ℕ) (parts pushed : List AvtPart) → length text ≤ most_bytes →
     IsTurning scope text old names first at offset parts → after.line ≡ at.line →
     Turns scope text at.line old first.next offset turn.Whole pushed new after.next → IsTemplate scope text old new first after pushed
 all_read scope text old names new first at after offset parts pushed short h line turned =

@@ -4,10 +4,11 @@ use Rattle.std.specs.Str.{IsUtf8}
 use Rattle.sx_atoms.specs.declared.error_codes.Code.{Code}
 use Rattle.sx_lex.proofs.Breaks.{front_cut}
 use Rattle.sx_lex.specs.declared.kinds.Token.{Token}
+use Rattle.sx_names.specs.Scope.{ScopeBindings}
 use Rattle.sx_parse.specs.declared.faults.SyntaxFault.{SyntaxFault}
 use Rattle.sx_parse.specs.declared.roles.Role.{Role}
 use Rattle.sx_parse.specs.Answers.{IsRefused, breaks, end_of, fault_in, fault_or, offset_in}
-use Rattle.sx_parse.specs.Checks.{Bindings, first_fault, fault_at, role_fault}
+use Rattle.sx_parse.specs.Checks.{first_fault, fault_at, role_fault}
 use Rattle.sx_parse.specs.Lexemes.{lexemes_of}
 use Rattle.sx_parse.specs.Lexing.{AreParts, AreRead}
 use Rattle.sx_parse.specs.Roles.{roles}
@@ -38,7 +39,7 @@ at_within : (most start : ℕ) (o : Option Code) (others : Option SyntaxFault) �
 at_within most start None others s w = w
 at_within most start (Some c) others s w = s
 
-first_within : (most : ℕ) (p : Bool) (scope : Bindings) (text : List ℕ) (all : List Token) (rs : List Role) (ts : List Token) → StartWithin most ts →
+first_within : (most : ℕ) (p : Bool) (scope : ScopeBindings) (text : List ℕ) (all : List Token) (rs : List Role) (ts : List Token) → StartWithin most ts →
     offset_or (first_fault p scope text all rs ts) ≤ most
 first_within most p scope text all [] ts w = omega arith
 first_within most p scope text all (r ∷ rs) [] w = omega arith
@@ -54,7 +55,7 @@ in_within most [] end k w v = v
 in_within most (t ∷ ts) end zero w v = w.0
 in_within most (t ∷ ts) end (suc k) w v = in_within most ts end k w.1 v
 
-pub refused_within : (p : Bool) (scope : Bindings) (text : List ℕ) (fault : SyntaxFault) → IsUtf8 text → IsRefused p scope text fault → fault.offset ≤ length text
+pub refused_within : (p : Bool) (scope : ScopeBindings) (text : List ℕ) (fault : SyntaxFault) → IsUtf8 text → IsRefused p scope text fault → fault.offset ≤ length text
 refused_within p scope text fault utf8 (inl h) =
     let starts = read_within text h.tokens None utf8 h.lexes in
     let w = first_within (length text) p scope text h.tokens (roles 0 h.tree) h.tokens starts in

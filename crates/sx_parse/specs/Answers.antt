@@ -4,11 +4,12 @@ use Rattle.sx_atoms.specs.declared.error_codes.Code.{Code}
 use Rattle.sx_atoms.specs.declared.error_codes.Code.TheVariants as code
 use Rattle.sx_lex.specs.declared.kinds.Token.{Token}
 use Rattle.sx_lex.specs.Tokens.{AreTokens}
+use Rattle.sx_names.specs.Scope.{ScopeBindings}
 use Rattle.sx_parse.specs.declared.faults.SyntaxFault.{SyntaxFault}
 use Rattle.sx_parse.specs.declared.lexemes.Lexeme.{Lexeme}
 use Rattle.sx_parse.specs.declared.lexemes.Lexeme.TheVariants as lexeme
 use Rattle.sx_parse.specs.declared.lexemes.Mark.TheVariants as mark
-use Rattle.sx_parse.specs.Checks.{Bindings, most_bytes, first_fault}
+use Rattle.sx_parse.specs.Checks.{most_bytes, first_fault}
 use Rattle.sx_parse.specs.Grammar.{Tree, Derives, IsFault}
 use Rattle.sx_parse.specs.Lexemes.{lexemes_of}
 use Rattle.sx_parse.specs.Lexing.{AreRead}
@@ -18,18 +19,18 @@ use Rattle.sx_parse.specs.Roles.{roles}
 use Rattle.sx_parse.specs.Says.{Meaning}
 
 -- a text has a derivation, as an expression or, where the flag is set, as a pattern, and nothing is wrong with its tokens
-pub record IsRead (p : Bool) (scope : Bindings) (text : List ℕ) (ts : List Token) (t : Tree) : Type 0 where
+pub record IsRead (p : Bool) (scope : ScopeBindings) (text : List ℕ) (ts : List Token) (t : Tree) : Type 0 where
   pub lexes : AreTokens 0 text ts
   pub derives : Derives p (lexemes_of text ts) t
   pub sound : first_fault p scope text ts (roles 0 t) ts ≡ None
 
 -- what its words mean, with these names
-abbrev pub meaning : Bindings → List ℕ → List Token → Tree → List Name → ℕ → Meaning
+abbrev pub meaning : ScopeBindings → List ℕ → List Token → Tree → List Name → ℕ → Meaning
 meaning scope text ts t names line =
     record { text = text; tokens = ts; scope = scope; numbers = numbers_among names scope text (roles 0 t) ts; line = line }
 
 -- the names that it adds to these
-abbrev pub names_with : Bindings → List ℕ → List Token → Tree → List Name → List Name
+abbrev pub names_with : ScopeBindings → List ℕ → List Token → Tree → List Name → List Name
 names_with scope text ts t names = with_names names (names_among scope text (roles 0 t) ts)
 
 -- ---- faults
@@ -80,7 +81,7 @@ fault_or (Some fault) other = fault
 fault_or None other = other
 
 -- the text is derived, and this is the first thing that is wrong with its tokens
-pub record IsUnsound (p : Bool) (scope : Bindings) (text : List ℕ) (fault : SyntaxFault) : Type 0 where
+pub record IsUnsound (p : Bool) (scope : ScopeBindings) (text : List ℕ) (fault : SyntaxFault) : Type 0 where
   pub tokens : List Token
   pub tree : Tree
   pub lexes : AreTokens 0 text tokens
@@ -89,7 +90,7 @@ pub record IsUnsound (p : Bool) (scope : Bindings) (text : List ℕ) (fault : Sy
 
 -- the text is not derived: some derivation goes on up to a token at which none does, and this is the first thing that is wrong with
 -- the tokens before it, or else the fault of grammar there
-pub record IsUnread (p : Bool) (scope : Bindings) (text : List ℕ) (fault : SyntaxFault) : Type 0 where
+pub record IsUnread (p : Bool) (scope : ScopeBindings) (text : List ℕ) (fault : SyntaxFault) : Type 0 where
   pub tokens : List Token
   pub stop : Option ℕ
   pub lexes : AreRead text tokens stop
@@ -100,7 +101,7 @@ pub record IsUnread (p : Bool) (scope : Bindings) (text : List ℕ) (fault : Syn
   pub first : fault ≡ fault_or (first_fault p scope text tokens (take count (roles 0 tree)) tokens)
       (fault_in p tokens (lexemes_of text tokens) (breaks stop) (end_of text stop) count)
 
-abbrev pub IsRefused : Bool → Bindings → List ℕ → SyntaxFault → Type 0
+abbrev pub IsRefused : Bool → ScopeBindings → List ℕ → SyntaxFault → Type 0
 IsRefused p scope text fault = IsUnsound p scope text fault ⊎ IsUnread p scope text fault
 
 -- a text of too many bytes is refused behind the last that it may have
@@ -108,7 +109,7 @@ abbrev pub too_long : SyntaxFault
 too_long = record { code = code.Sxst0001; offset = most_bytes }
 
 -- why a text is refused: it is too long, or else it can't be read
-abbrev pub IsFaulty : Bool → Bindings → List ℕ → SyntaxFault → Type 0
+abbrev pub IsFaulty : Bool → ScopeBindings → List ℕ → SyntaxFault → Type 0
 IsFaulty p scope text fault = ((most_bytes < length text) × (fault ≡ too_long)) ⊎ ((length text ≤ most_bytes) × IsRefused p scope text fault)
 
 -- whether a text has too many bytes

@@ -19,15 +19,11 @@ use Rattle.sx_kinds.specs.declared.expressions.Function.TheVariants as function
 use Rattle.sx_lex.specs.declared.kinds.Token.{Token}
 use Rattle.sx_lex.specs.declared.kinds.TokenKind.{TokenKind}
 use Rattle.sx_lex.specs.declared.kinds.TokenKind.TheVariants as token_kind
-use Rattle.sx_names.specs.Scope.{bound}
+use Rattle.sx_names.specs.Scope.{ScopeBindings, bound}
 use Rattle.sx_parse.specs.declared.faults.SyntaxFault.{SyntaxFault}
 use Rattle.sx_parse.specs.declared.roles.Role.{Role}
 use Rattle.sx_parse.specs.declared.roles.Role.TheVariants as role
 use Rattle.sx_parse.specs.Lexemes.{found, text_of}
-
--- the bindings in force, as `sx_names` sees them
-abbrev pub Bindings : Type 0
-Bindings = List (List (List ℕ × List ℕ))
 
 -- the namespace of the functions, and that of the types
 abbrev pub fn_uri : List ℕ
@@ -37,12 +33,12 @@ abbrev pub xs_uri : List ℕ
 xs_uri = codes "http://www.w3.org/2001/XMLSchema"
 
 -- the namespace of a name: that of its prefix, if that is bound, or else, where it has none, this
-abbrev pub uri_with : List ℕ → Bindings → List ℕ → Option (List ℕ)
+abbrev pub uri_with : List ℕ → ScopeBindings → List ℕ → Option (List ℕ)
 uri_with default scope [] = Some default
 uri_with default scope (b ∷ bs) = bound scope (b ∷ bs)
 
 -- the namespace of the name of an element, an attribute, a variable or a type: without prefix, none
-abbrev pub name_uri : Bindings → List ℕ → Option (List ℕ)
+abbrev pub name_uri : ScopeBindings → List ℕ → Option (List ℕ)
 name_uri scope text = uri_with [] scope (prefix_of text)
 
 -- a namespace, and the empty text where there is none
@@ -51,7 +47,7 @@ or_none None = []
 or_none (Some uri) = uri
 
 -- the namespace of the name of a function
-abbrev pub function_uri : Bindings → List ℕ → Option (List ℕ)
+abbrev pub function_uri : ScopeBindings → List ℕ → Option (List ℕ)
 function_uri scope text = uri_with fn_uri scope (prefix_of text)
 
 -- the functions by their local names (XPath functions and operators 3.1; XSLT 3.0, 14, 18 and 20)
@@ -142,7 +138,7 @@ function_with text None = None
 function_with text (Some uri) = function_named uri (local_of text)
 
 -- the function of a name as it is written
-abbrev pub function_of : Bindings → List ℕ → Option Function
+abbrev pub function_of : ScopeBindings → List ℕ → Option Function
 function_of scope text = function_with text (function_uri scope text)
 
 -- whether a function takes this many arguments
@@ -150,6 +146,10 @@ abbrev pub takes : Option Function → ℕ → Bool
 takes None count = false
 takes (Some (function.Text f)) count = allows (signature_text f) count
 takes (Some (function.Seq f)) count = allows (signature_seq f) count
+
+-- whether a call of a function may have this many arguments
+abbrev pub takes_arguments : Function → ℕ → Bool
+takes_arguments f count = takes (Some f) count
 
 -- what stands in quotes, from behind the first one on: a doubled quote is one, and the last one ends it
 abbrev pub unquoted : ℕ → List ℕ → List ℕ
@@ -183,7 +183,7 @@ name_fault None = Some code.Xpst0081
 name_fault (Some uri) = None
 
 -- a wildcard of one part has a prefix in front of its colon, or `*`
-abbrev pub wild_fault : Bindings → List ℕ → Option Code
+abbrev pub wild_fault : ScopeBindings → List ℕ → Option Code
 wild_fault scope text = if bytes_eq (prefix_of text) (codes "*") then None else name_fault (name_uri scope text)
 
 abbrev pub is_current : Option Function → Bool
@@ -217,7 +217,7 @@ abbrev pub text_at : List ℕ → List Token → ℕ → List ℕ
 text_at text ts place = option_map_or (text_of text) (slice_get ts place) []
 
 -- what is wrong with a token of this role, if anything is: in a pattern, where the flag is set
-abbrev pub role_fault : Bool → Bindings → List ℕ → List Token → Role → Token → Option Code
+abbrev pub role_fault : Bool → ScopeBindings → List ℕ → List Token → Role → Token → Option Code
 role_fault pattern scope text ts role.Plain token = None
 role_fault pattern scope text ts role.Name token = name_fault (name_uri scope (text_of text token))
 role_fault pattern scope text ts role.Wild token = wild_fault scope (text_of text token)
@@ -232,7 +232,7 @@ fault_at offset (Some c) others = Some (record { code = c; offset = offset })
 fault_at offset None others = others
 
 -- the first fault of tokens with these roles, among all the tokens of a text
-abbrev pub first_fault : Bool → Bindings → List ℕ → List Token → List Role → List Token → Option SyntaxFault
+abbrev pub first_fault : Bool → ScopeBindings → List ℕ → List Token → List Role → List Token → Option SyntaxFault
 first_fault pattern scope text ts [] tokens = None
 first_fault pattern scope text ts (r ∷ rs) [] = None
 first_fault pattern scope text ts (r ∷ rs) (token ∷ tokens) =

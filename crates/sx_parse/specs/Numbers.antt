@@ -2,9 +2,10 @@
 use Rattle.std.specs.Prelude.{ℕ, suc, Bool, true, false, ◌&&◌, List, [], ◌∷◌, ◌++◌, bytes_eq, if◌then◌else◌}
 use Rattle.sx_chars.specs.Names.{local_of}
 use Rattle.sx_lex.specs.declared.kinds.Token.{Token}
+use Rattle.sx_names.specs.Scope.{ScopeBindings}
 use Rattle.sx_parse.specs.declared.roles.Role.{Role}
 use Rattle.sx_parse.specs.declared.roles.Role.TheVariants as role
-use Rattle.sx_parse.specs.Checks.{Bindings, name_uri, or_none}
+use Rattle.sx_parse.specs.Checks.{name_uri, or_none}
 use Rattle.sx_parse.specs.Lexemes.{text_of}
 
 -- a name: its namespace and its local name
@@ -12,7 +13,7 @@ abbrev pub Name : Type 0
 Name = List ℕ × List ℕ
 
 -- the name that is written so
-abbrev pub expanded : Bindings → List ℕ → Name
+abbrev pub expanded : ScopeBindings → List ℕ → Name
 expanded scope text = (or_none (name_uri scope text), local_of text)
 
 abbrev pub same_name : Name → Name → Bool
@@ -36,14 +37,14 @@ with_names names [] = names
 with_names names (name ∷ others) = with_names (with_name names name) others
 
 -- the names of elements, attributes and variables among tokens with these roles
-abbrev pub names_among : Bindings → List ℕ → List Role → List Token → List Name
+abbrev pub names_among : ScopeBindings → List ℕ → List Role → List Token → List Name
 names_among scope text [] ts = []
 names_among scope text (r ∷ rs) [] = []
 names_among scope text (role.Name ∷ rs) (token ∷ ts) = expanded scope (text_of text token) ∷ names_among scope text rs ts
 names_among scope text (r ∷ rs) (token ∷ ts) = names_among scope text rs ts
 
 -- for each token the number of its name where it has one, and else 0
-abbrev pub numbers_among : List Name → Bindings → List ℕ → List Role → List Token → List ℕ
+abbrev pub numbers_among : List Name → ScopeBindings → List ℕ → List Role → List Token → List ℕ
 numbers_among names scope text [] ts = []
 numbers_among names scope text (r ∷ rs) [] = []
 numbers_among names scope text (role.Name ∷ rs) (token ∷ ts) = number_in names (expanded scope (text_of text token)) ∷ numbers_among names scope text rs ts

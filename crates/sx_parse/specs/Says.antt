@@ -27,6 +27,7 @@ use Rattle.sx_tree.specs.declared.steps.Axis.{Axis}
 use Rattle.sx_tree.specs.declared.steps.Axis.TheVariants as axis
 use Rattle.sx_tree.specs.declared.steps.NodeTest.{NodeTest}
 use Rattle.sx_tree.specs.declared.steps.NodeTest.TheVariants as node_test
+use Rattle.sx_names.specs.Scope.{ScopeBindings}
 use Rattle.sx_parse.specs.declared.lexemes.Operator.{Operator}
 use Rattle.sx_parse.specs.declared.lexemes.Operator.TheVariants as operator
 use Rattle.sx_parse.specs.declared.lexemes.Casting.{Casting}
@@ -39,7 +40,7 @@ use Rattle.sx_parse.specs.declared.lexemes.StepPrefix.{StepPrefix}
 use Rattle.sx_parse.specs.declared.lexemes.StepPrefix.TheVariants as prefix
 use Rattle.sx_parse.specs.declared.lexemes.Test.{Test}
 use Rattle.sx_parse.specs.declared.lexemes.Test.TheVariants as test
-use Rattle.sx_parse.specs.Checks.{Bindings as Scope, name_uri, or_none, function_of, type_named, literal_of, text_at}
+use Rattle.sx_parse.specs.Checks.{name_uri, or_none, function_of, type_named, literal_of, text_at}
 use Rattle.sx_parse.specs.Grammar.{axis_of, Tree, literal, dot, parent, root, variable, step, empty, parens, call, called, filter, comma, prefixed, binary, cast, choice, bind, Bindings, first, also, binder_of}
 use Rattle.sx_parse.specs.Nodes.{takes_more}
 
@@ -48,7 +49,7 @@ use Rattle.sx_parse.specs.Nodes.{takes_more}
 pub record Meaning : Type 0 where
   pub text : List ℕ
   pub tokens : List Token
-  pub scope : Scope
+  pub scope : ScopeBindings
   pub numbers : List ℕ
   pub line : ℕ
 
@@ -89,7 +90,7 @@ step_axis prefix.At t = axis.Attribute
 step_axis (prefix.Axis w p) t = or_child (axis_of w)
 
 -- a wildcard of one part
-abbrev pub wild_test : Scope → List ℕ → NodeTest
+abbrev pub wild_test : ScopeBindings → List ℕ → NodeTest
 wild_test scope text = if bytes_eq (prefix_of text) (codes "*") then node_test.Local (local_of text) else node_test.InSpace (or_none (name_uri scope text))
 
 abbrev pub kind_test : KindWord → NodeTest

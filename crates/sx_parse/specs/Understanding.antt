@@ -1,17 +1,17 @@
 -- A text that was read, with what its reading left.
 use Rattle.std.specs.Prelude.{◌≡◌, ℕ, ◌≤◌, Bool, List, length, Option, Some, None}
 use Rattle.sx_lex.specs.declared.kinds.Token.{Token}
+use Rattle.sx_names.specs.Scope.{ScopeBindings}
 use Rattle.sx_parse.specs.declared.nodes.Node.{Node}
 use Rattle.sx_parse.specs.declared.roles.Role.{Role}
 use Rattle.sx_parse.specs.Answers.{IsRead}
-use Rattle.sx_parse.specs.Checks.{Bindings}
 use Rattle.sx_parse.specs.Grammar.{Tree}
 use Rattle.sx_parse.specs.Lexing.{AreParts}
 use Rattle.sx_parse.specs.Nodes.{nodes}
 use Rattle.sx_parse.specs.Roles.{roles}
 
 -- a text is read: its tokens, the list of its derivation, and the roles of its tokens
-pub record IsUnderstood (p : Bool) (scope : Bindings) (text : List ℕ) (ts : List Token) (given : List Node) (said : List Role) : Type 0 where
+pub record IsUnderstood (p : Bool) (scope : ScopeBindings) (text : List ℕ) (ts : List Token) (given : List Node) (said : List Role) : Type 0 where
   pub tree : Tree
   pub is : IsRead p scope text ts tree
   pub nodes_are : given ≡ nodes tree

@@ -35,7 +35,8 @@ impl Reader {
     }
 
     fn begin_double_slash(&mut self) -> Result<bool, AllocError>
-        ensures { IfOk result (λ goes. outcome goes (seen self.new) ≡ flat.begin_double_slash (seen self.old)) }
+        ensures { IfOk result
+            (λ goes. outcome goes (seen self.new) ≡ flat.begin_double_slash (seen self.old)) }
     {
         if self.floor() <= 15 {
             self.expect(Frame::Signed(Operator::DoubleSlash), Role::Plain)
@@ -46,7 +47,8 @@ impl Reader {
 
     /// What may begin an operand, but none of a pattern.
     fn begin_outside(&mut self, mark: Mark) -> Result<bool, AllocError>
-        ensures { IfOk result (λ goes. outcome goes (seen self.new) ≡ flat.begin_outside (seen self.old) mark) }
+        ensures { IfOk result
+            (λ goes. outcome goes (seen self.new) ≡ flat.begin_outside (seen self.old) mark) }
     {
         match mark {
             Mark::Operator(Operator::Arith(ArithOp::Add)) => {
@@ -79,7 +81,8 @@ impl Reader {
     }
 
     fn begin_unless_pattern(&mut self, mark: Mark) -> Result<bool, AllocError>
-        ensures { IfOk result (λ goes. outcome goes (seen self.new) ≡ flat.begin_unless_pattern (seen self.old) mark) }
+        ensures { IfOk result
+            (λ goes. outcome goes (seen self.new) ≡ flat.begin_unless_pattern (seen self.old) mark) }
     {
         if self.in_pattern() {
             Ok(false)
@@ -117,7 +120,8 @@ impl Reader {
 
     /// `)` behind `(`.
     fn close_empty(&mut self) -> Result<bool, AllocError>
-        ensures { IfOk result (λ goes. outcome goes (seen self.new) ≡ flat.close_empty (seen self.old).frames (seen self.old)) }
+        ensures { IfOk result
+            (λ goes. outcome goes (seen self.new) ≡ flat.close_empty (seen self.old).frames (seen self.old)) }
     {
         match self.frames.pop() {
             Some(Frame::Paren) => self.closed(Node::Empty, Role::Plain, Shape::Other),
@@ -135,7 +139,8 @@ impl Reader {
 
     /// The first token behind `(`.
     pub fn begin_fresh(&mut self, lexeme: Lexeme) -> Result<bool, AllocError>
-        ensures { IfOk result (λ goes. outcome goes (seen self.new) ≡ flat.begin_fresh (seen self.old) lexeme) }
+        ensures { IfOk result
+            (λ goes. outcome goes (seen self.new) ≡ flat.begin_fresh (seen self.old) lexeme) }
     {
         match lexeme {
             Lexeme::Mark(Mark::Close) => self.close_empty(),

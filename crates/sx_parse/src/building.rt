@@ -77,7 +77,8 @@ fn joined_by(
 
 // A path of its front part and what is behind the last `/`.
 fn path(alloc: Global, words: &Wording, a: Expr, b: Expr) -> Result<Expr, AllocError>
-    ensures { IfOk result (λ e. e ≡ spec.made (meaning_of words.now) ConstructKind.Path (ExprForm.Path false) (a ∷ b ∷ [])) }
+    ensures { IfOk result
+        (λ e. e ≡ spec.made (meaning_of words.now) ConstructKind.Path (ExprForm.Path false) (a ∷ b ∷ [])) }
 {
     made_of_two(
         alloc,
@@ -239,7 +240,9 @@ fn choice(
     then: Expr,
     otherwise: Expr,
 ) -> Result<Expr, AllocError>
-    ensures { IfOk result (λ e. e ≡ spec.made (meaning_of words.now) ConstructKind.If ExprForm.If (test ∷ then ∷ otherwise ∷ [])) }
+    ensures { IfOk result
+        (λ e. e ≡ spec.made (meaning_of words.now) ConstructKind.If ExprForm.If
+        (test ∷ then ∷ otherwise ∷ [])) }
 {
     let mut parts = two(alloc, test, then)?;
     parts.push(otherwise)?;
@@ -249,7 +252,9 @@ fn choice(
 fn literal(alloc: Global, words: &Wording, place: u32) -> Result<Expr, AllocError>
     requires cut { IsCut words.now }
     requires literal { stack_of.IsLiteralAt (meaning_of words.now) place }
-    ensures { IfOk result (λ e. e ≡ spec.made (meaning_of words.now) ConstructKind.LiteralValue (ExprForm.Literal (spec.literal_atom (meaning_of words.now) place)) []) }
+    ensures { IfOk result
+        (λ e. e ≡ spec.made (meaning_of words.now) ConstructKind.LiteralValue
+        (ExprForm.Literal (spec.literal_atom (meaning_of words.now) place)) []) }
 {
     let atom = words.literal_atom(alloc, place)?;
     Ok(made_of_none(
@@ -261,7 +266,8 @@ fn literal(alloc: Global, words: &Wording, place: u32) -> Result<Expr, AllocErro
 }
 
 fn variable(alloc: Global, words: &Wording, place: u32) -> Expr
-    ensures { result ≡ spec.made (meaning_of words.now) ConstructKind.Var (ExprForm.Var (spec.number_at (meaning_of words.now) place) spec.any_type) [] }
+    ensures { result ≡ spec.made (meaning_of words.now) ConstructKind.Var
+        (ExprForm.Var (spec.number_at (meaning_of words.now) place) spec.any_type) [] }
 {
     let name = words.number_at(place);
     let ty = any_type();
@@ -309,7 +315,8 @@ fn put_cast(
     stack: &mut Operands,
 ) -> Result<(), AllocError>
     requires { IsCut words.now }
-    ensures { OnOk result (stack.new ≡ stack_of.put (meaning_of words.now) (Node.Cast casting to optional) stack.old) }
+    ensures { OnOk result (stack.new
+        ≡ stack_of.put (meaning_of words.now) (Node.Cast casting to optional) stack.old) }
 {
     let e = stack.take(alloc, words);
     let named = words.type_at(to);
@@ -367,7 +374,8 @@ fn put_bind(
     place: u32,
     stack: &mut Operands,
 ) -> Result<(), AllocError>
-    ensures { OnOk result (stack.new ≡ stack_of.put (meaning_of words.now) (Node.Bind binder place) stack.old) }
+    ensures { OnOk result (stack.new
+        ≡ stack_of.put (meaning_of words.now) (Node.Bind binder place) stack.old) }
 {
     let e = stack.take(alloc, words);
     let value = stack.take(alloc, words);
@@ -416,7 +424,8 @@ fn put(alloc: Global, words: &Wording, node: Node, stack: &mut Operands) -> Resu
 pub(crate) fn build(alloc: Global, words: &Wording, nodes: &[Node]) -> Result<Exprs, AllocError>
     requires cut { IsCut words.now }
     requires literals { stack_of.AreLiteralsIn (meaning_of words.now) nodes.now }
-    ensures { IfOk result (λ es. (t : Tree) → nodes.now ≡ nodes_of t → es ≡ spec.operands (meaning_of words.now) t) }
+    ensures { IfOk result
+        (λ es. (t : Tree) → nodes.now ≡ nodes_of t → es ≡ spec.operands (meaning_of words.now) t) }
 {
     let mut stack = Operands::new(alloc);
     for node in nodes {

@@ -27,7 +27,8 @@ pub(crate) fn first_fault(
     roles: &[Role],
 ) -> Result<Option<SyntaxFault>, AllocError>
     requires { AreParts text.now tokens.now }
-    ensures { IfOk result (λ fault. fault ≡ spec.first_fault pattern scope.now text.now tokens.now roles.now tokens.now) }
+    ensures { IfOk result
+        (λ fault. fault ≡ spec.first_fault pattern scope.now text.now tokens.now roles.now tokens.now) }
 {
     for (role, token) in roles.iter().zip(tokens) {
         if let Some(code) = role_fault(alloc, pattern, scope, text, tokens, *role, *token)? {
@@ -52,7 +53,8 @@ fn role_fault(
 ) -> Result<Option<Code>, AllocError>
     requires parts { AreParts text.now tokens.now }
     requires part { IsPart text.now token }
-    ensures { IfOk result (λ fault. fault ≡ spec.role_fault pattern scope.now text.now tokens.now role token) }
+    ensures { IfOk result
+        (λ fault. fault ≡ spec.role_fault pattern scope.now text.now tokens.now role token) }
 {
     let spelled = token_text(text, token);
     Ok(match role {
@@ -104,7 +106,8 @@ fn wild_fault(scope: &Scope, name: &str) -> Option<Code>
 /// XPST0081 where the prefix of a function's name is not bound, XTSE0340 for `current` in a pattern, and XPST0017 where no
 /// function has the name.
 fn function_fault(pattern: bool, scope: &Scope, name: &str) -> Option<Code>
-    ensures { result ≡ spec.function_fault pattern (spec.function_uri scope.now name.now) (spec.function_of scope.now name.now) }
+    ensures { result ≡ spec.function_fault pattern (spec.function_uri scope.now name.now)
+        (spec.function_of scope.now name.now) }
 {
     if function_uri(scope, name).is_none() {
         return Some(Code::Xpst0081);

@@ -1,9 +1,11 @@
 // Expressions.
-ghost use Rattle.std.specs.Prelude.{◌≡◌, ◌<◌, ◌≤◌, ◌+◌, ◌*◌, ◌^◌, Bool, false, length, IfOk, IfErr, OnOk, MatchResult};
+ghost use Rattle.std.specs.Prelude.{◌≡◌, ◌<◌, ◌≤◌, ◌+◌, ◌*◌, ◌^◌, Bool, false, length, IfOk, IfErr, OnErr, OnOk, MatchResult};
+ghost use Rattle.sx_kinds.specs.Formed.{IsFormed};
 ghost use Rattle.sx_names.specs.Numbering.{KeepsPlaces};
-ghost use Rattle.sx_parse.specs.Answers.{IsFaulty, IsRefused};
+ghost use Rattle.sx_parse.specs.Answers.{IsRefused};
 ghost use Rattle.sx_parse.specs.Answers as answers;
-ghost use Rattle.sx_parse.specs.Parsed.{IsExpression, IsSaid, IsSaying};
+ghost use Rattle.sx_parse.specs.Checks.{takes_arguments};
+ghost use Rattle.sx_parse.specs.Parsed.{AnswersExpression, IsSaid, IsSaying};
 ghost use Rattle.sx_parse.specs.Understanding.{IsUnderstood};
 
 use crate::building::build;
@@ -47,8 +49,11 @@ pub(crate) fn said(
     understood: &Understood,
     line: u64,
 ) -> Result<Expr, AllocError>
-    requires { (p : Bool) × IsUnderstood p scope.now text.now understood.now.tokens understood.now.nodes understood.now.roles }
-    ensures says { IfOk result (IsSaying scope.now text.now understood.now.tokens understood.now.nodes understood.now.roles line names.old names.new) }
+    requires { (p : Bool)
+        × IsUnderstood p scope.now text.now understood.now.tokens understood.now.nodes understood.now.roles }
+    ensures says { IfOk result
+        (IsSaying scope.now text.now understood.now.tokens understood.now.nodes understood.now.roles line
+        names.old names.new) }
     ensures kept { KeepsPlaces names.old names.new }
 {
     let numbers = number_names(
@@ -79,11 +84,15 @@ fn numbered(
     understood: &Understood,
     at: &mut Numbering,
 ) -> Result<Expr, AllocError>
-    requires understood { IsUnderstood false scope.now text.now understood.now.tokens understood.now.nodes understood.now.roles }
+    requires understood { IsUnderstood false scope.now text.now
+        understood.now.tokens understood.now.nodes understood.now.roles }
     requires short { length text.now ≤ 4096 }
     requires room { at.old.next < 2 ^ 63 }
-    ensures says { IfOk result (IsSaid scope.now text.now at.old.line names.old at.old.next names.new at.new.next) }
+    ensures says { IfOk result
+        (IsSaid scope.now text.now at.old.line names.old at.old.next names.new at.new.next) }
+    ensures formed { IfOk result (IsFormed takes_arguments) }
     ensures grows { OnOk result (at.new.next ≤ at.old.next + 2 * length text.now) }
+    ensures failed { OnErr result (at.new ≡ at.old) }
     ensures line { at.new.line ≡ at.old.line }
     ensures kept { KeepsPlaces names.old names.new }
 {
@@ -101,9 +110,14 @@ pub(crate) fn expression(
 ) -> Result<Result<Expr, SyntaxFault>, AllocError>
     requires short { length text.now ≤ 4096 }
     requires room { at.old.next < 2 ^ 63 }
-    ensures says { IfOk result (λ r. MatchResult r (IsSaid scope.now text.now at.old.line names.old at.old.next names.new at.new.next) (IsRefused false scope.now text.now)) }
+    ensures says { IfOk result
+        (λ r. MatchResult r
+        (IsSaid scope.now text.now at.old.line names.old at.old.next names.new at.new.next)
+        (IsRefused false scope.now text.now)) }
+    ensures formed { IfOk result (λ r. IfOk r (IsFormed takes_arguments)) }
     ensures grows { OnOk result (at.new.next ≤ at.old.next + 2 * length text.now) }
     ensures refused { IfOk result (λ r. IfErr r (λ fault. (at.new ≡ at.old) × (names.new ≡ names.old))) }
+    ensures failed { OnErr result (at.new ≡ at.old) }
     ensures line { at.new.line ≡ at.old.line }
     ensures kept { KeepsPlaces names.old names.new }
 {
@@ -119,7 +133,8 @@ pub(crate) fn expression(
 /// nothing has changed: `SXST0001` for a text that is too long stands before all others; `XPST0003` at the first token at which no
 /// reading goes on, at a literal without a value, and at an unknown type; `XPST0081` at a name whose prefix is not bound;
 /// `XPST0017` at the name of an unknown function, and at the closing parenthesis of a call with a wrong number of arguments;
-/// `SXST0002` at the token that opens too much. After an `AllocError` names may have been added.
+/// `SXST0002` at the token that opens too much. After an `AllocError` no number is used up, names may have been added, and each
+/// number that was given keeps its name.
 pub fn parse_expr(
     alloc: Global,
     s: &str,
@@ -128,9 +143,11 @@ pub fn parse_expr(
     at: &mut Numbering,
 ) -> Result<Result<Expr, SyntaxFault>, AllocError>
     requires { at.old.next < 2 ^ 62 }
-    ensures exactly { IfOk result (λ r. MatchResult r (IsExpression scope.now s.now names.old names.new at.old at.new) (IsFaulty false scope.now s.now)) }
+    ensures exactly { IfOk result (AnswersExpression scope.now s.now names.old names.new at.old at.new) }
+    ensures formed { IfOk result (λ r. IfOk r (IsFormed takes_arguments)) }
     ensures grows { OnOk result (at.new.next ≤ at.old.next + 2 * length s.now) }
     ensures refused { IfOk result (λ r. IfErr r (λ fault. (at.new ≡ at.old) × (names.new ≡ names.old))) }
+    ensures failed { OnErr result (at.new ≡ at.old) }
     ensures line { at.new.line ≡ at.old.line }
     ensures kept { KeepsPlaces names.old names.new }
 {

@@ -23,7 +23,8 @@ impl Reader {
 
     /// `)`, behind so many operands with commas between.
     fn close(&mut self, operands: u64) -> Result<bool, AllocError>
-        ensures { IfOk result (λ goes. outcome goes (seen self.new) ≡ flat.close (flat.joined (seen self.old) operands)) }
+        ensures { IfOk result
+            (λ goes. outcome goes (seen self.new) ≡ flat.close (flat.joined (seen self.old) operands)) }
     {
         match self.frames.pop() {
             Some(Frame::Paren) => self.closed(Node::Parens, Role::Plain, Shape::Other),
@@ -42,7 +43,8 @@ impl Reader {
 
     /// `]`
     fn close_bracket(&mut self) -> Result<bool, AllocError>
-        ensures { IfOk result (λ goes. outcome goes (seen self.new) ≡ flat.close_bracket (seen self.old).frames (seen self.old)) }
+        ensures { IfOk result
+            (λ goes. outcome goes (seen self.new) ≡ flat.close_bracket (seen self.old).frames (seen self.old)) }
     {
         match self.frames.pop() {
             Some(Frame::Predicate { more }) => {
@@ -54,7 +56,8 @@ impl Reader {
 
     /// `else`
     fn otherwise(&mut self) -> Result<bool, AllocError>
-        ensures { IfOk result (λ goes. outcome goes (seen self.new) ≡ flat.else_under (seen self.old).frames (seen self.old)) }
+        ensures { IfOk result
+            (λ goes. outcome goes (seen self.new) ≡ flat.else_under (seen self.old).frames (seen self.old)) }
     {
         match self.frames.pop() {
             Some(Frame::Branch) => self.expect(Frame::Otherwise, Role::Plain),
@@ -63,7 +66,8 @@ impl Reader {
     }
 
     fn comma_bound(&mut self, binder: Binder, name: u32, first: bool) -> Result<bool, AllocError>
-        ensures { IfOk result (λ goes. outcome goes (seen self.new) ≡ flat.comma_bound (seen self.old) binder name first) }
+        ensures { IfOk result
+            (λ goes. outcome goes (seen self.new) ≡ flat.comma_bound (seen self.old) binder name first) }
     {
         let body = Frame::Body {
             binder,
@@ -75,7 +79,8 @@ impl Reader {
     }
 
     fn more_operands(&mut self, operands: u64) -> Result<bool, AllocError>
-        ensures { IfOk result (λ goes. outcome goes (seen self.new) ≡ flat.more_operands (seen self.old) operands) }
+        ensures { IfOk result
+            (λ goes. outcome goes (seen self.new) ≡ flat.more_operands (seen self.old) operands) }
     {
         if self.floor() == 0 {
             self.expect(Frame::More(operands), Role::Plain)
@@ -86,7 +91,8 @@ impl Reader {
 
     /// `,`, behind so many operands with commas between.
     fn comma(&mut self, operands: u64) -> Result<bool, AllocError>
-        ensures { IfOk result (λ goes. outcome goes (seen self.new) ≡ flat.comma (flat.joined (seen self.old) operands)) }
+        ensures { IfOk result
+            (λ goes. outcome goes (seen self.new) ≡ flat.comma (flat.joined (seen self.old) operands)) }
     {
         match self.frames.pop() {
             Some(
@@ -162,7 +168,8 @@ impl Reader {
     }
 
     fn optional(&mut self, casting: Casting, to: u32) -> Result<bool, AllocError>
-        ensures { IfOk result (λ goes. outcome goes (seen self.new) ≡ flat.optional (seen self.old) casting to) }
+        ensures { IfOk result
+            (λ goes. outcome goes (seen self.new) ≡ flat.optional (seen self.old) casting to) }
     {
         let optional = true;
         let node = Node::Cast {
@@ -181,7 +188,8 @@ impl Reader {
 
     /// `[`
     fn open_predicate(&mut self, shape: Shape) -> Result<bool, AllocError>
-        ensures { IfOk result (λ goes. outcome goes (seen self.new) ≡ flat.open_predicate (seen self.old) shape) }
+        ensures { IfOk result
+            (λ goes. outcome goes (seen self.new) ≡ flat.open_predicate (seen self.old) shape) }
     {
         if reaches(self.in_pattern(), 16, shape) {
             let more = matches!(shape, Shape::Filtered);
@@ -200,7 +208,9 @@ impl Reader {
         lexeme: Lexeme,
         operator: Operator,
     ) -> Result<bool, AllocError>
-        ensures { IfOk result (λ goes. outcome goes (seen self.new) ≡ flat.follow_operator (seen self.old) shape operands lexeme operator) }
+        ensures { IfOk result
+            (λ goes. outcome goes (seen self.new)
+            ≡ flat.follow_operator (seen self.old) shape operands lexeme operator) }
     {
         let pattern = self.in_pattern();
         let floor = left_level(operator);
@@ -218,7 +228,8 @@ impl Reader {
         operands: u64,
         casting: Casting,
     ) -> Result<bool, AllocError>
-        ensures { IfOk result (λ goes. outcome goes (seen self.new) ≡ flat.follow_casting (seen self.old) shape operands casting) }
+        ensures { IfOk result
+            (λ goes. outcome goes (seen self.new) ≡ flat.follow_casting (seen self.old) shape operands casting) }
     {
         let floor = cast_operand_level(casting);
         if !self.in_pattern() && reaches(false, floor, shape) {
@@ -230,7 +241,8 @@ impl Reader {
     }
 
     fn follow_comma(&mut self, operands: u64) -> Result<bool, AllocError>
-        ensures { IfOk result (λ goes. outcome goes (seen self.new) ≡ flat.follow_comma (seen self.old) operands) }
+        ensures { IfOk result
+            (λ goes. outcome goes (seen self.new) ≡ flat.follow_comma (seen self.old) operands) }
     {
         if self.in_pattern() {
             Ok(false)
@@ -241,35 +253,40 @@ impl Reader {
     }
 
     fn follow_close(&mut self, operands: u64) -> Result<bool, AllocError>
-        ensures { IfOk result (λ goes. outcome goes (seen self.new) ≡ flat.close (flat.joined_at 0 (seen self.old) operands)) }
+        ensures { IfOk result
+            (λ goes. outcome goes (seen self.new) ≡ flat.close (flat.joined_at 0 (seen self.old) operands)) }
     {
         let operands = self.reach(0, operands)?;
         self.close(operands)
     }
 
     fn follow_bracket(&mut self, operands: u64) -> Result<bool, AllocError>
-        ensures { IfOk result (λ goes. outcome goes (seen self.new) ≡ flat.follow_bracket (seen self.old) operands) }
+        ensures { IfOk result
+            (λ goes. outcome goes (seen self.new) ≡ flat.follow_bracket (seen self.old) operands) }
     {
         self.reach(0, operands)?;
         self.close_bracket()
     }
 
     fn follow_else(&mut self, operands: u64) -> Result<bool, AllocError>
-        ensures { IfOk result (λ goes. outcome goes (seen self.new) ≡ flat.follow_else (seen self.old) operands) }
+        ensures { IfOk result
+            (λ goes. outcome goes (seen self.new) ≡ flat.follow_else (seen self.old) operands) }
     {
         self.reach(0, operands)?;
         self.otherwise()
     }
 
     fn follow_returned(&mut self, operands: u64, lexeme: Lexeme) -> Result<bool, AllocError>
-        ensures { IfOk result (λ goes. outcome goes (seen self.new) ≡ flat.follow_returned (seen self.old) operands lexeme) }
+        ensures { IfOk result
+            (λ goes. outcome goes (seen self.new) ≡ flat.follow_returned (seen self.old) operands lexeme) }
     {
         self.reach(0, operands)?;
         self.returned(lexeme)
     }
 
     fn follow_mark(&mut self, shape: Shape, operands: u64, mark: Mark) -> Result<bool, AllocError>
-        ensures { IfOk result (λ goes. outcome goes (seen self.new) ≡ flat.follow_mark (seen self.old) shape operands mark) }
+        ensures { IfOk result
+            (λ goes. outcome goes (seen self.new) ≡ flat.follow_mark (seen self.old) shape operands mark) }
     {
         match mark {
             Mark::Operator(operator) => {
@@ -291,7 +308,8 @@ impl Reader {
         word: Word,
         place: u32,
     ) -> Result<bool, AllocError>
-        ensures { IfOk result (λ goes. outcome goes (seen self.new) ≡ flat.follow_name (seen self.old) shape operands word place) }
+        ensures { IfOk result
+            (λ goes. outcome goes (seen self.new) ≡ flat.follow_name (seen self.old) shape operands word place) }
     {
         match word {
             Word::Operator(operator) => {
@@ -313,7 +331,8 @@ impl Reader {
         operands: u64,
         lexeme: Lexeme,
     ) -> Result<bool, AllocError>
-        ensures { IfOk result (λ goes. outcome goes (seen self.new) ≡ flat.follow (seen self.old) shape operands lexeme) }
+        ensures { IfOk result
+            (λ goes. outcome goes (seen self.new) ≡ flat.follow (seen self.old) shape operands lexeme) }
     {
         match lexeme {
             Lexeme::Mark(mark) => self.follow_mark(shape, operands, mark),

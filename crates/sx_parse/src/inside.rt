@@ -15,7 +15,8 @@ use sx_kinds::ArithOp;
 impl Reader {
     /// The test behind `@` or an axis (XPath 3.1, 3.3.2).
     pub fn axis_test(&mut self, prefix: StepPrefix, lexeme: Lexeme) -> Result<bool, AllocError>
-        ensures { IfOk result (λ goes. outcome goes (seen self.new) ≡ flat.axis_test (seen self.old) prefix lexeme) }
+        ensures { IfOk result
+            (λ goes. outcome goes (seen self.new) ≡ flat.axis_test (seen self.old) prefix lexeme) }
     {
         match lexeme {
             Lexeme::Name(word, place) => self.turn(Mode::Named(prefix, word, place), Role::Name),
@@ -39,7 +40,8 @@ impl Reader {
         word: Word,
         name: u32,
     ) -> Result<bool, AllocError>
-        ensures { IfOk result (λ goes. outcome goes (seen self.new) ≡ flat.kind_name (seen self.old) prefix kind place word name) }
+        ensures { IfOk result
+            (λ goes. outcome goes (seen self.new) ≡ flat.kind_name (seen self.old) prefix kind place word name) }
     {
         if takes_name(kind, word) {
             let test = Test::KindOf(kind, place, word, name);
@@ -57,7 +59,8 @@ impl Reader {
         place: u32,
         lexeme: Lexeme,
     ) -> Result<bool, AllocError>
-        ensures { IfOk result (λ goes. outcome goes (seen self.new) ≡ flat.in_kind (seen self.old) prefix kind place lexeme) }
+        ensures { IfOk result
+            (λ goes. outcome goes (seen self.new) ≡ flat.in_kind (seen self.old) prefix kind place lexeme) }
     {
         match lexeme {
             Lexeme::Mark(Mark::Close) => {
@@ -76,7 +79,8 @@ impl Reader {
         test: Test,
         lexeme: Lexeme,
     ) -> Result<bool, AllocError>
-        ensures { IfOk result (λ goes. outcome goes (seen self.new) ≡ flat.end_kind (seen self.old) prefix test lexeme) }
+        ensures { IfOk result
+            (λ goes. outcome goes (seen self.new) ≡ flat.end_kind (seen self.old) prefix test lexeme) }
     {
         match lexeme {
             Lexeme::Mark(Mark::Close) => {
@@ -88,7 +92,8 @@ impl Reader {
 
     /// The name behind `$` (XPath 3.1, 3.1.2).
     pub fn variable_name(&mut self, lexeme: Lexeme) -> Result<bool, AllocError>
-        ensures { IfOk result (λ goes. outcome goes (seen self.new) ≡ flat.variable_name (seen self.old) lexeme) }
+        ensures { IfOk result
+            (λ goes. outcome goes (seen self.new) ≡ flat.variable_name (seen self.old) lexeme) }
     {
         match lexeme {
             Lexeme::Name(_, place) => self.have(Node::Variable(place), Role::Name, Shape::Other),
@@ -98,7 +103,8 @@ impl Reader {
 
     /// The `$` behind the comma of bindings.
     pub fn bound_dollar(&mut self, binder: Binder, lexeme: Lexeme) -> Result<bool, AllocError>
-        ensures { IfOk result (λ goes. outcome goes (seen self.new) ≡ flat.bound_dollar (seen self.old) binder lexeme) }
+        ensures { IfOk result
+            (λ goes. outcome goes (seen self.new) ≡ flat.bound_dollar (seen self.old) binder lexeme) }
     {
         match lexeme {
             Lexeme::Mark(Mark::Dollar) => self.turn(Mode::BinderDollar(binder, false), Role::Plain),
@@ -113,7 +119,8 @@ impl Reader {
         first: bool,
         lexeme: Lexeme,
     ) -> Result<bool, AllocError>
-        ensures { IfOk result (λ goes. outcome goes (seen self.new) ≡ flat.bound_name (seen self.old) binder first lexeme) }
+        ensures { IfOk result
+            (λ goes. outcome goes (seen self.new) ≡ flat.bound_name (seen self.old) binder first lexeme) }
     {
         match lexeme {
             Lexeme::Name(_, name) => self.turn(Mode::BinderName(binder, name, first), Role::Name),
@@ -129,7 +136,8 @@ impl Reader {
         first: bool,
         lexeme: Lexeme,
     ) -> Result<bool, AllocError>
-        ensures { IfOk result (λ goes. outcome goes (seen self.new) ≡ flat.bind_name (seen self.old) binder name first lexeme) }
+        ensures { IfOk result
+            (λ goes. outcome goes (seen self.new) ≡ flat.bind_name (seen self.old) binder name first lexeme) }
     {
         if introduces(binder, lexeme) {
             let binding = Frame::Binding {
@@ -145,7 +153,8 @@ impl Reader {
 
     /// `as` (XPath 3.1, 3.14).
     pub fn cast_as(&mut self, casting: Casting, lexeme: Lexeme) -> Result<bool, AllocError>
-        ensures { IfOk result (λ goes. outcome goes (seen self.new) ≡ flat.cast_as (seen self.old) casting lexeme) }
+        ensures { IfOk result
+            (λ goes. outcome goes (seen self.new) ≡ flat.cast_as (seen self.old) casting lexeme) }
     {
         match lexeme {
             Lexeme::Name(Word::As, _) => self.turn(Mode::CastingAs(casting), Role::Plain),
@@ -155,7 +164,8 @@ impl Reader {
 
     /// The name of a type.
     pub fn cast_type(&mut self, casting: Casting, lexeme: Lexeme) -> Result<bool, AllocError>
-        ensures { IfOk result (λ goes. outcome goes (seen self.new) ≡ flat.cast_type (seen self.old) casting lexeme) }
+        ensures { IfOk result
+            (λ goes. outcome goes (seen self.new) ≡ flat.cast_type (seen self.old) casting lexeme) }
     {
         match lexeme {
             Lexeme::Name(_, to) => self.cast(casting, to),

@@ -19,7 +19,8 @@ impl Reader {
         kind: KindWord,
         place: u32,
     ) -> Result<bool, AllocError>
-        ensures { IfOk result (λ goes. outcome goes (seen self.new) ≡ flat.open_test (seen self.old) prefix kind place) }
+        ensures { IfOk result
+            (λ goes. outcome goes (seen self.new) ≡ flat.open_test (seen self.old) prefix kind place) }
     {
         replace_last(&mut self.roles, Role::Plain);
         let opens = Role::Opens(self.depth.saturating_add(1));
@@ -27,7 +28,8 @@ impl Reader {
     }
 
     fn open_kind(&mut self, prefix: StepPrefix, word: Word, place: u32) -> Result<bool, AllocError>
-        ensures { IfOk result (λ goes. outcome goes (seen self.new) ≡ flat.open_kind (seen self.old) prefix word place) }
+        ensures { IfOk result
+            (λ goes. outcome goes (seen self.new) ≡ flat.open_kind (seen self.old) prefix word place) }
     {
         match word {
             Word::Kind(kind) => self.open_test(prefix, kind, place),
@@ -50,7 +52,8 @@ impl Reader {
 
     /// The parentheses of a call (XPath 3.1, 3.1.5)
     fn open_call(&mut self, function: u32) -> Result<bool, AllocError>
-        ensures { IfOk result (λ goes. outcome goes (seen self.new) ≡ flat.open_call (seen self.old) function) }
+        ensures { IfOk result
+            (λ goes. outcome goes (seen self.new) ≡ flat.open_call (seen self.old) function) }
     {
         if self.in_pattern() {
             Ok(false)
@@ -61,7 +64,8 @@ impl Reader {
     }
 
     fn open_plain(&mut self, word: Word, place: u32) -> Result<bool, AllocError>
-        ensures { IfOk result (λ goes. outcome goes (seen self.new) ≡ flat.open_plain (seen self.old) word place) }
+        ensures { IfOk result
+            (λ goes. outcome goes (seen self.new) ≡ flat.open_plain (seen self.old) word place) }
     {
         match word {
             Word::Kind(kind) => self.open_test(StepPrefix::Plain, kind, place),
@@ -72,7 +76,8 @@ impl Reader {
 
     /// `(` behind a name
     fn open_name(&mut self, prefix: StepPrefix, word: Word, place: u32) -> Result<bool, AllocError>
-        ensures { IfOk result (λ goes. outcome goes (seen self.new) ≡ flat.open_name (seen self.old) prefix word place) }
+        ensures { IfOk result
+            (λ goes. outcome goes (seen self.new) ≡ flat.open_name (seen self.old) prefix word place) }
     {
         match prefix {
             StepPrefix::Plain => self.open_plain(word, place),
@@ -82,7 +87,8 @@ impl Reader {
 
     /// `::` behind a name
     fn name_axis(&mut self, prefix: StepPrefix, word: Word, place: u32) -> Result<bool, AllocError>
-        ensures { IfOk result (λ goes. outcome goes (seen self.new) ≡ flat.name_axis (seen self.old) prefix word place) }
+        ensures { IfOk result
+            (λ goes. outcome goes (seen self.new) ≡ flat.name_axis (seen self.old) prefix word place) }
     {
         match prefix {
             StepPrefix::Plain => self.begin_axis(word, place),
@@ -91,7 +97,8 @@ impl Reader {
     }
 
     fn begin_axis(&mut self, word: Word, place: u32) -> Result<bool, AllocError>
-        ensures { IfOk result (λ goes. outcome goes (seen self.new) ≡ flat.begin_axis (seen self.old) word place) }
+        ensures { IfOk result
+            (λ goes. outcome goes (seen self.new) ≡ flat.begin_axis (seen self.old) word place) }
     {
         if names_axis(self.in_pattern(), word) {
             replace_last(&mut self.roles, Role::Plain);
@@ -103,7 +110,8 @@ impl Reader {
 
     /// `$` behind a name
     fn name_binder(&mut self, prefix: StepPrefix, word: Word) -> Result<bool, AllocError>
-        ensures { IfOk result (λ goes. outcome goes (seen self.new) ≡ flat.name_binder (seen self.old) prefix word) }
+        ensures { IfOk result
+            (λ goes. outcome goes (seen self.new) ≡ flat.name_binder (seen self.old) prefix word) }
     {
         match (prefix, word) {
             (StepPrefix::Plain, Word::Binder(binder)) => self.begin_binder(binder),
@@ -112,7 +120,8 @@ impl Reader {
     }
 
     fn begin_binder(&mut self, binder: Binder) -> Result<bool, AllocError>
-        ensures { IfOk result (λ goes. outcome goes (seen self.new) ≡ flat.begin_binder (seen self.old) binder) }
+        ensures { IfOk result
+            (λ goes. outcome goes (seen self.new) ≡ flat.begin_binder (seen self.old) binder) }
     {
         if !self.in_pattern() && self.floor() <= 1 {
             self.depth = self.depth.saturating_add(1);
@@ -130,7 +139,8 @@ impl Reader {
         place: u32,
         lexeme: Lexeme,
     ) -> Result<bool, AllocError>
-        ensures { IfOk result (λ goes. outcome goes (seen self.new) ≡ flat.follow_step (seen self.old) prefix word place lexeme) }
+        ensures { IfOk result
+            (λ goes. outcome goes (seen self.new) ≡ flat.follow_step (seen self.old) prefix word place lexeme) }
     {
         self.nodes
             .push(Node::Step(prefix, Test::Named(word, place)))?;
@@ -145,7 +155,8 @@ impl Reader {
         place: u32,
         lexeme: Lexeme,
     ) -> Result<bool, AllocError>
-        ensures { IfOk result (λ goes. outcome goes (seen self.new) ≡ flat.follow_named (seen self.old) prefix word place lexeme) }
+        ensures { IfOk result
+            (λ goes. outcome goes (seen self.new) ≡ flat.follow_named (seen self.old) prefix word place lexeme) }
     {
         match lexeme {
             Lexeme::Mark(Mark::Open) => self.open_name(prefix, word, place),

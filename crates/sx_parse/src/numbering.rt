@@ -1,5 +1,5 @@
 // The numbers of constructs.
-ghost use Rattle.std.specs.Prelude.{◌≡◌, suc, false, ◌+◌, ◌<◌, ◌^◌, map, IfOk, OnOk};
+ghost use Rattle.std.specs.Prelude.{◌≡◌, suc, false, ◌+◌, ◌<◌, ◌^◌, map, IfOk, OnErr, OnOk};
 ghost use Rattle.sx_parse.specs.Numbered.{count, counts, in_order, is_path, numbered, numbers_in};
 ghost use Rattle.sx_parse.specs.Raised.{left_of, with_parts, whole, behind};
 
@@ -23,14 +23,19 @@ struct Level {
     outside: bool,
 }
 
-/// An expression whose constructs are numbered in document order: its own first, then those of its parts.
+/// An expression whose constructs are numbered in document order: its own first, then those of its parts. No number is used up
+/// where the memory does not suffice.
 pub(crate) fn number(alloc: Global, expr: Expr, at: &mut Numbering) -> Result<Expr, AllocError>
     requires { at.old.next + count expr < 2 ^ 64 }
     ensures expr { IfOk result (λ e. e ≡ numbered at.old.next expr) }
     ensures next { OnOk result (at.new.next ≡ at.old.next + count expr) }
+    ensures failed { OnErr result (at.new ≡ at.old) }
     ensures line { at.new.line ≡ at.old.line }
 {
-    number_in(alloc, expr, false, at)
+    let mut behind = *at;
+    let numbered = number_in(alloc, expr, false, &mut behind)?;
+    *at = behind;
+    Ok(numbered)
 }
 
 fn is_a_path(form: &ExprForm) -> bool

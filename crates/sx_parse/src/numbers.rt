@@ -25,8 +25,10 @@ pub(crate) fn number_names(
     roles: &[Role],
 ) -> Result<Items<u64>, AllocError>
     requires { AreParts text.now tokens.now }
-    ensures names { IfOk result (λ numbers. names.new ≡ with_names names.old (names_among scope.now text.now roles.now tokens.now)) }
-    ensures numbers { IfOk result (λ numbers. numbers ≡ numbers_among names.new scope.now text.now roles.now tokens.now) }
+    ensures names { IfOk result
+        (λ numbers. names.new ≡ with_names names.old (names_among scope.now text.now roles.now tokens.now)) }
+    ensures numbers { IfOk result
+        (λ numbers. numbers ≡ numbers_among names.new scope.now text.now roles.now tokens.now) }
     ensures kept { KeepsPlaces names.old names.new }
 {
     let mut numbers = Items::new(alloc);
@@ -39,8 +41,10 @@ pub(crate) fn number_names(
 
 /// The number of a name, which is added if it is new; 0 where the role is not that of a name.
 fn number_of(scope: &Scope, names: &mut Names, text: &str, role: Role) -> Result<u64, AllocError>
-    ensures names { IfOk result (λ number. names.new ≡ names_with role names.old (expanded scope.now text.now)) }
-    ensures number { IfOk result (λ number. number ≡ number_with role names.new (expanded scope.now text.now)) }
+    ensures names { IfOk result
+        (λ number. names.new ≡ names_with role names.old (expanded scope.now text.now)) }
+    ensures number { IfOk result
+        (λ number. number ≡ number_with role names.new (expanded scope.now text.now)) }
     ensures kept { KeepsPlaces names.old names.new }
 {
     match role {

@@ -43,7 +43,8 @@ fn fault_in(pattern: bool, text: &str, lexed: &Lexed, count: usize) -> SyntaxFau
     requires lexed { IsLexed text.now lexed.now.tokens lexed.now.lexemes lexed.now.stop }
     requires fit { length text.now ≤ 4096 }
     requires within { count ≤ length lexed.now.lexemes }
-    ensures { result ≡ answers.fault_in pattern lexed.now.tokens (lexemes_of text.now lexed.now.tokens) (answers.breaks lexed.now.stop) (answers.end_of text.now lexed.now.stop) count }
+    ensures { result ≡ answers.fault_in pattern lexed.now.tokens (lexemes_of text.now lexed.now.tokens)
+        (answers.breaks lexed.now.stop) (answers.end_of text.now lexed.now.stop) count }
 {
     grammar_fault(
         pattern,
@@ -63,7 +64,10 @@ pub(crate) fn understand(
     text: &str,
 ) -> Result<Result<Understood, SyntaxFault>, AllocError>
     requires { length text.now ≤ 4096 }
-    ensures { IfOk result (λ r. MatchResult r (λ u. IsUnderstood pattern scope.now text.now u.tokens u.nodes u.roles) (IsRefused pattern scope.now text.now)) }
+    ensures { IfOk result
+        (λ r. MatchResult r
+        (λ u. IsUnderstood pattern scope.now text.now u.tokens u.nodes u.roles)
+        (IsRefused pattern scope.now text.now)) }
 {
     let lexed = lex(alloc, text)?;
     let reading = read(alloc, pattern, lexed.lexemes.as_slice())?;

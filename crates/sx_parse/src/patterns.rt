@@ -1,8 +1,9 @@
 // Patterns.
-ghost use Rattle.std.specs.Prelude.{◌≡◌, ℕ, ◌<◌, ◌≤◌, ◌+◌, ◌*◌, ◌^◌, true, length, IfOk, IfErr, OnOk, MatchResult};
+ghost use Rattle.std.specs.Prelude.{◌≡◌, ℕ, ◌<◌, ◌≤◌, ◌+◌, ◌*◌, ◌^◌, true, length, IfOk, IfErr, OnErr, OnOk};
+ghost use Rattle.sx_kinds.specs.Formed.{AreFormed};
 ghost use Rattle.sx_names.specs.Numbering.{KeepsPlaces};
-ghost use Rattle.sx_parse.specs.Answers.{IsFaulty};
-ghost use Rattle.sx_parse.specs.Parsed.{IsPattern, IsPatternOf};
+ghost use Rattle.sx_parse.specs.Checks.{takes_arguments};
+ghost use Rattle.sx_parse.specs.Parsed.{AnswersPattern, IsPatternOf};
 ghost use Rattle.sx_parse.specs.Understanding.{IsUnderstood};
 ghost use Rattle.sx_kinds.specs.declared.expressions.Expr.TheViews.{out-Expr};
 ghost use Rattle.sx_parse.specs.Grammar.{Fits, Tree};
@@ -34,7 +35,9 @@ fn parts_of(expr: Expr) -> Exprs
 
 /// The alternatives of a pattern, which `|` joins in its expression (XSLT 3.0, 5.5.2).
 pub(crate) fn alternatives(alloc: Global, expr: Expr) -> Result<Exprs, AllocError>
-    ensures { IfOk result (λ es. (m : Meaning) (n : ℕ) (t : Tree) → Fits true n t → expr ≡ spec.says m t → es ≡ spec.alternatives m t) }
+    ensures { IfOk result
+        (λ es. (m : Meaning) (n : ℕ) (t : Tree) → Fits true n t → expr ≡ spec.says m t → es
+        ≡ spec.alternatives m t) }
 {
     let mut front = expr;
     // the alternatives behind the front, the last one first
@@ -63,11 +66,14 @@ fn pattern(
     understood: &Understood,
     at: &mut Numbering,
 ) -> Result<Pattern, AllocError>
-    requires understood { IsUnderstood true scope.now text.now understood.now.tokens understood.now.nodes understood.now.roles }
+    requires understood { IsUnderstood true scope.now text.now
+        understood.now.tokens understood.now.nodes understood.now.roles }
     requires short { length text.now ≤ 4096 }
     requires room { at.old.next < 2 ^ 63 }
     ensures says { IfOk result (IsPatternOf scope.now text.now names.old names.new at.old at.new) }
+    ensures formed { IfOk result (λ q. AreFormed takes_arguments q.alternatives) }
     ensures grows { OnOk result (at.new.next ≤ at.old.next + 2 * length text.now) }
+    ensures failed { OnErr result (at.new ≡ at.old) }
     ensures line { at.new.line ≡ at.old.line }
     ensures kept { KeepsPlaces names.old names.new }
 {
@@ -78,8 +84,12 @@ fn pattern(
         line: at.line,
         kind: ConstructKind::Pattern,
     };
-    at.next += 1;
-    let alternatives = number_parts(alloc, alternatives, true, at)?;
+    let mut behind = Numbering {
+        next: at.next + 1,
+        line: at.line,
+    };
+    let alternatives = number_parts(alloc, alternatives, true, &mut behind)?;
+    *at = behind;
     Ok(Pattern {
         construct,
         alternatives,
@@ -88,7 +98,8 @@ fn pattern(
 
 /// Reads a pattern (XSLT 3.0, 5.5.2) of at most 4,096 bytes: paths on the child and attribute axes, joined by `|`, or `/` alone.
 /// It is numbered `at.next`, its own steps are not numbered, and the constructs in its predicates have the next numbers. It is
-/// refused as an expression is, but that a fault of grammar outside predicates is `XTSE0340`, and so is a call of `current`.
+/// refused as an expression is, but that a fault of grammar outside predicates is `XTSE0340`, and so is a call of `current`. After an
+/// `AllocError` no number is used up, names may have been added, and each number that was given keeps its name.
 pub fn parse_pattern(
     alloc: Global,
     s: &str,
@@ -97,9 +108,11 @@ pub fn parse_pattern(
     at: &mut Numbering,
 ) -> Result<Result<Pattern, SyntaxFault>, AllocError>
     requires { at.old.next < 2 ^ 62 }
-    ensures exactly { IfOk result (λ r. MatchResult r (IsPattern scope.now s.now names.old names.new at.old at.new) (IsFaulty true scope.now s.now)) }
+    ensures exactly { IfOk result (AnswersPattern scope.now s.now names.old names.new at.old at.new) }
+    ensures formed { IfOk result (λ r. IfOk r (λ q. AreFormed takes_arguments q.alternatives)) }
     ensures grows { OnOk result (at.new.next ≤ at.old.next + 2 * length s.now) }
     ensures refused { IfOk result (λ r. IfErr r (λ fault. (at.new ≡ at.old) × (names.new ≡ names.old))) }
+    ensures failed { OnErr result (at.new ≡ at.old) }
     ensures line { at.new.line ≡ at.old.line }
     ensures kept { KeepsPlaces names.old names.new }
 {

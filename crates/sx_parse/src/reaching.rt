@@ -88,7 +88,8 @@ impl Reader {
 
     /// Joins everything pending of a level or a later one, and says how many operands commas join then.
     pub fn reach(&mut self, floor: u8, mut operands: u64) -> Result<u64, AllocError>
-        ensures { IfOk result (λ count. flat.joined (seen self.new) count ≡ flat.joined_at floor (seen self.old) operands) }
+        ensures { IfOk result
+            (λ count. flat.joined (seen self.new) count ≡ flat.joined_at floor (seen self.old) operands) }
     {
         while let Some(frame) = self.frames.pop() {
             let Some(node) = joins(floor, frame) else {

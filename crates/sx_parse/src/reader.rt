@@ -72,7 +72,8 @@ impl Reader {
 
     /// An operand of one token is complete.
     pub fn have(&mut self, node: Node, role: Role, shape: Shape) -> Result<bool, AllocError>
-        ensures { IfOk result (λ goes. outcome goes (seen self.new) ≡ flat.have (seen self.old) node role shape) }
+        ensures { IfOk result
+            (λ goes. outcome goes (seen self.new) ≡ flat.have (seen self.old) node role shape) }
     {
         self.nodes.push(node)?;
         self.roles.push(role)?;
@@ -82,7 +83,8 @@ impl Reader {
 
     /// A token that stands before an operand.
     pub fn expect(&mut self, frame: Frame, role: Role) -> Result<bool, AllocError>
-        ensures { IfOk result (λ goes. outcome goes (seen self.new) ≡ flat.expect (seen self.old) frame role) }
+        ensures { IfOk result
+            (λ goes. outcome goes (seen self.new) ≡ flat.expect (seen self.old) frame role) }
     {
         self.frames.push(frame)?;
         self.roles.push(role)?;
@@ -101,7 +103,8 @@ impl Reader {
 
     /// A token with which something opens.
     pub fn open(&mut self, frame: Frame, mode: Mode) -> Result<bool, AllocError>
-        ensures { IfOk result (λ goes. outcome goes (seen self.new) ≡ flat.opened (seen self.old) frame mode) }
+        ensures { IfOk result
+            (λ goes. outcome goes (seen self.new) ≡ flat.opened (seen self.old) frame mode) }
     {
         let depth = self.depth.saturating_add(1);
         self.frames.push(frame)?;
@@ -113,7 +116,8 @@ impl Reader {
 
     /// A token with which something closes.
     pub fn closed(&mut self, node: Node, role: Role, shape: Shape) -> Result<bool, AllocError>
-        ensures { IfOk result (λ goes. outcome goes (seen self.new) ≡ flat.closed (seen self.old) node role shape) }
+        ensures { IfOk result
+            (λ goes. outcome goes (seen self.new) ≡ flat.closed (seen self.old) node role shape) }
     {
         self.depth = self.depth.saturating_sub(1);
         self.have(node, role, shape)

@@ -13,7 +13,8 @@ use std::alloc::AllocError;
 
 impl Reader {
     fn follow_root(&mut self, lexeme: Lexeme) -> Result<bool, AllocError>
-        ensures { IfOk result (λ goes. outcome goes (seen self.new) ≡ flat.follow_root (seen self.old) lexeme) }
+        ensures { IfOk result
+            (λ goes. outcome goes (seen self.new) ≡ flat.follow_root (seen self.old) lexeme) }
     {
         if reaches(self.in_pattern(), self.floor(), Shape::Root) {
             self.nodes.push(Node::Root)?;
@@ -24,7 +25,8 @@ impl Reader {
     }
 
     fn follow_slash(&mut self, lexeme: Lexeme) -> Result<bool, AllocError>
-        ensures { IfOk result (λ goes. outcome goes (seen self.new) ≡ flat.follow_slash (seen self.old) lexeme) }
+        ensures { IfOk result
+            (λ goes. outcome goes (seen self.new) ≡ flat.follow_slash (seen self.old) lexeme) }
     {
         if begins_step(lexeme) {
             self.frames.push(Frame::Signed(Operator::Slash))?;
@@ -69,14 +71,16 @@ impl Reader {
 
     /// Whether nothing is open behind an operand.
     fn whole(&mut self, operands: u64) -> Result<bool, AllocError>
-        ensures { IfOk result (λ goes. outcome goes (seen self.new) ≡ flat.whole (flat.joined_at 0 (seen self.old) operands).flat) }
+        ensures { IfOk result
+            (λ goes. outcome goes (seen self.new) ≡ flat.whole (flat.joined_at 0 (seen self.old) operands).flat) }
     {
         self.reach(0, operands)?;
         Ok(self.is_closed())
     }
 
     fn end_step(&mut self, prefix: StepPrefix, word: Word, place: u32) -> Result<bool, AllocError>
-        ensures { IfOk result (λ goes. outcome goes (seen self.new) ≡ flat.end_step (seen self.old) prefix word place) }
+        ensures { IfOk result
+            (λ goes. outcome goes (seen self.new) ≡ flat.end_step (seen self.old) prefix word place) }
     {
         self.nodes
             .push(Node::Step(prefix, Test::Named(word, place)))?;

@@ -33,7 +33,9 @@ pub(crate) fn step(
     test: Test,
 ) -> Result<Expr, AllocError>
     requires { IsCut words.now }
-    ensures { IfOk result (λ e. e ≡ spec.step_of (meaning_of words.now) (spec.step_axis prefix test) (spec.node_test_of (meaning_of words.now) test)) }
+    ensures { IfOk result
+        (λ e. e ≡ spec.step_of (meaning_of words.now) (spec.step_axis prefix test)
+        (spec.node_test_of (meaning_of words.now) test)) }
 {
     Ok(step_on(
         alloc,

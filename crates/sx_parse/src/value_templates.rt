@@ -1,9 +1,9 @@
 // Value templates.
-ghost use Rattle.std.specs.Prelude.{◌≡◌, ◌<◌, ◌≤◌, ◌+◌, ◌*◌, ◌^◌, ℕ, List, length, IfOk, IfErr, OnOk, MatchResult};
+ghost use Rattle.std.specs.Prelude.{◌≡◌, ◌<◌, ◌≤◌, ◌+◌, ◌*◌, ◌^◌, ℕ, List, length, IfOk, IfErr, OnErr, OnOk};
 ghost use Rattle.std.specs.Str.{IsCharBoundary};
 ghost use Rattle.sx_names.specs.Numbering.{KeepsPlaces};
 ghost use Rattle.sx_parse.specs.Numbers.{Name};
-ghost use Rattle.sx_parse.specs.Parsed.{IsFaultyTemplate, IsTemplate};
+ghost use Rattle.sx_parse.specs.Parsed.{AnswersTemplate, AreFormedParts};
 ghost use Rattle.sx_parse.specs.Parsed as spec;
 ghost use Rattle.sx_parse.specs.Turning.{IsReadTo, Turns};
 
@@ -51,7 +51,10 @@ fn read_piece(
     requires boundary { IsCharBoundary text.now offset }
     requires short { length text.now ≤ 4096 }
     requires room { at.old.next < 2 ^ 63 }
-    ensures turns { IfOk result (λ r. (first : List Name) (n : ℕ) → IsReadTo scope.now text.now at.old.line first n offset parts.old names.old at.old.next → Turns scope.now text.now at.old.line first n offset r parts.new names.new at.new.next) }
+    ensures turns { IfOk result
+        (λ r. (first : List Name) (n : ℕ)
+        → IsReadTo scope.now text.now at.old.line first n offset parts.old names.old at.old.next
+        → Turns scope.now text.now at.old.line first n offset r parts.new names.new at.new.next) }
     ensures line { at.new.line ≡ at.old.line }
     ensures kept { KeepsPlaces names.old names.new }
 {
@@ -72,11 +75,38 @@ fn read_piece(
     }
 }
 
+/// Reads the pieces of a value template one behind another.
+fn read_pieces(
+    alloc: Global,
+    s: &str,
+    scope: &Scope,
+    names: &mut Names,
+    at: &mut Numbering,
+) -> Result<Result<AvtParts, SyntaxFault>, AllocError>
+    requires short { length s.now ≤ 4096 }
+    requires room { at.old.next < 2 ^ 62 }
+    ensures exactly { IfOk result (AnswersTemplate scope.now s.now names.old names.new at.old at.new) }
+    ensures formed { IfOk result (λ r. IfOk r AreFormedParts) }
+    ensures grows { OnOk result (at.new.next ≤ at.old.next + 2 * length s.now) }
+    ensures line { at.new.line ≡ at.old.line }
+    ensures kept { KeepsPlaces names.old names.new }
+{
+    let mut parts = Items::new(alloc);
+    let mut offset = 0;
+    'pieces: loop {
+        match read_piece(alloc, s, offset, scope, names, at, &mut parts)? {
+            Turn::Whole => return Ok(Ok(parts)),
+            Turn::Refused(fault) => return Ok(Err(fault)),
+            Turn::Behind(end) => offset = end,
+        }
+    }
+}
+
 /// Reads a value template (XSLT 3.0, 5.6.1) of at most 4,096 bytes: its fixed text with braces no longer doubled, and its
 /// expressions, each as `parse_expr` reads it, numbered one behind another. Of several faults the one at the least offset is
 /// answered: `SXST0001` for a text that is too long stands before all others; `XTSE0350` at a `{` that no `}` matches; `XTSE0370`
-/// at a `}` that no `{` matches; and the faults of its expressions. After a fault numbers may be used up and names may have been
-/// added.
+/// at a `}` that no `{` matches; and the faults of its expressions. After a fault or an `AllocError` no number is used up, names of
+/// its expressions may have been added, and each number that was given keeps its name.
 pub fn parse_avt(
     alloc: Global,
     s: &str,
@@ -85,22 +115,23 @@ pub fn parse_avt(
     at: &mut Numbering,
 ) -> Result<Result<AvtParts, SyntaxFault>, AllocError>
     requires { at.old.next < 2 ^ 62 }
-    ensures exactly { IfOk result (λ r. MatchResult r (IsTemplate scope.now s.now names.old names.new at.old at.new) (IsFaultyTemplate scope.now s.now)) }
+    ensures exactly { IfOk result (AnswersTemplate scope.now s.now names.old names.new at.old at.new) }
+    ensures formed { IfOk result (λ r. IfOk r AreFormedParts) }
     ensures grows { OnOk result (at.new.next ≤ at.old.next + 2 * length s.now) }
-    ensures refused { IfOk result (λ r. IfErr r (λ fault. at.old.next ≤ at.new.next)) }
+    ensures refused { IfOk result (λ r. IfErr r (λ fault. at.new ≡ at.old)) }
+    ensures failed { OnErr result (at.new ≡ at.old) }
     ensures line { at.new.line ≡ at.old.line }
     ensures kept { KeepsPlaces names.old names.new }
 {
     if is_too_long(s) {
         return Ok(Err(too_long()));
     }
-    let mut parts = Items::new(alloc);
-    let mut offset = 0;
-    'pieces: loop {
-        match read_piece(alloc, s, offset, scope, names, at, &mut parts)? {
-            Turn::Whole => return Ok(Ok(parts)),
-            Turn::Refused(fault) => return Ok(Err(fault)),
-            Turn::Behind(end) => offset = end,
+    let mut behind = *at;
+    match read_pieces(alloc, s, scope, names, &mut behind)? {
+        Err(fault) => Ok(Err(fault)),
+        Ok(parts) => {
+            *at = behind;
+            Ok(Ok(parts))
         }
     }
 }

@@ -1,5 +1,9 @@
+use Rattle.sx_lex.proofs.EachText.{some_tokens}
 use Rattle.sx_lex.proofs.Unique.{same_tokens, whole_or_broken, same_offset}
 use Rattle.sx_lex.proofs.laws.one_reading.Goals as goal
+
+pub returns-clause-some : goal.returns-clause-some
+returns-clause-some c = λ text. some_tokens text
 
 pub returns-clause-tokens : goal.returns-clause-tokens
 returns-clause-tokens c = λ text ts us a b. same_tokens ts us 0 text a b
