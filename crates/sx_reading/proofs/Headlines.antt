@@ -73,6 +73,7 @@ module _ (written : WrittenFor) (outcome : OutcomeFor) where
       record {
         known = record { told = λ t. opens.known.told (f.known.told t); shown = λ h. opens.known.shown (f.known.shown h) };
         not_usage = run.kind.0;
+        not_static = run.kind.2;
         open_fault = λ q. absurd (run.kind.1 q);
         read_fault = λ q. subst (λ (k : ℕ). Rose k new.read_faults) opens.read_faults (run.read_fault q);
         write_fault = λ q. subst (λ (k : ℕ). Rose k (new.write_faults out.Result)) (opens.write_faults out.Result) (run.write_fault q);
@@ -154,6 +155,7 @@ module _ (written : WrittenFor) (outcome : OutcomeFor) where
   untouched_then name old mid new s run u = record {
     known = record { told = λ t. run.known.told (u.known.told t); shown = λ h. run.known.shown (u.known.shown h) };
     not_usage = run.not_usage;
+    not_static = run.not_static;
     open_fault = λ q. subst (λ (k : ℕ). Rose old.open_faults k) (sym u.open_faults) (run.open_fault q);
     read_fault = λ q. subst (λ (k : ℕ). Rose old.read_faults k) (sym u.read_faults) (run.read_fault q);
     write_fault = λ q. subst (λ (k : ℕ). Rose (old.write_faults out.Result) k) (sym u.write_faults) (run.write_fault q);

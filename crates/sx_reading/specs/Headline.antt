@@ -1,5 +1,6 @@
 -- What a call does to a desk that runs on the document of a name.
 use Rattle.std.specs.Prelude.{◌≡◌, ◌≢◌, ◌↔◌, ℕ, suc, ◌+◌, ◌<◌, ◌≤◌, Bool, IsTrue, List, [], ◌∷◌, ◌++◌, length, take, unwrap_or, IsSome}
+use Rattle.sx_atoms.specs.declared.error_codes.Code.{Code}
 use Rattle.sx_desk.specs.Desk.{Seen, Rose, StaysKnown}
 use Rattle.sx_desk.specs.declared.desk.Out.TheVariants as out
 use Rattle.sx_reading.specs.Transforming.{WrittenFor, OutcomeFor, RiseTo, StepTo, HasMark, MarksStand, Answers}
@@ -54,6 +55,7 @@ module _ (written : WrittenFor) (outcome : OutcomeFor) where
   pub record Headline (name : List ℕ) (old new : Seen) (s : Status) : Type 0 where
     pub known : StaysKnown old new
     pub not_usage : s ≢ status.Usage
+    pub not_static : (c : Code) (l : ℕ) → s ≢ status.Static c l
     pub open_fault : s ≡ status.OpenFault → Rose old.open_faults new.open_faults
     pub read_fault : s ≡ status.ReadFault → Rose old.read_faults new.read_faults
     pub write_fault : s ≡ status.WriteFault → Rose (old.write_faults out.Result) (new.write_faults out.Result)

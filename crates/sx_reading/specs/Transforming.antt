@@ -190,3 +190,14 @@ module _ (written : WrittenFor) (outcome : OutcomeFor) where
     pub answer : Answers s input ended taken
     pub not_ended : s ≡ status.ReadFault → ended ≡ false
     pub told : IsTrue new.told → ToldLeft file old new input ended taken
+
+-- What a consumer stands for is how it is left, for each meaning of bytes for which it stood at the beginning, unless memory
+-- was wanting.
+abbrev pub LeavesFor : (WrittenFor → OutcomeFor → List ℕ → Bool → List ℕ → Type 0) → (WrittenFor → OutcomeFor → List ℕ → Bool → List ℕ → Type 0) → ℕ → Seen → Seen → Status → Type 0
+LeavesFor Stood Stands file old new s =
+    (written : WrittenFor) (outcome : OutcomeFor) → Stood written outcome [] false [] → s ≢ status.OutOfMemory → Left written outcome (Stands written outcome) file old new s
+
+-- This is a transformation by each meaning of bytes for which the consumer stood at the beginning.
+abbrev pub TransformsFor : (WrittenFor → OutcomeFor → List ℕ → Bool → List ℕ → Type 0) → ℕ → Seen → Seen → Status → Type 0
+TransformsFor Stood file old new s =
+    (written : WrittenFor) (outcome : OutcomeFor) → Stood written outcome [] false [] → Transforms written outcome file old new s

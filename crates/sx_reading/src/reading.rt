@@ -3,7 +3,7 @@ ghost use Rattle.std.specs.Prelude.{◌≡◌, ◌≢◌, ◌<◌, ◌≤◌, �
 ghost use Rattle.sx_desk.specs.Desk.{Seen};
 ghost use Rattle.sx_desk.specs.declared.desk.Out.TheVariants as out;
 ghost use Rattle.sx_reading.specs.Frame.{Frame};
-ghost use Rattle.sx_reading.specs.Transforming.{WrittenFor, OutcomeFor, Transforms, Left, most_read};
+ghost use Rattle.sx_reading.specs.Transforming.{WrittenFor, OutcomeFor, TransformsFor, LeavesFor, most_read};
 ghost use Rattle.sx_reading.specs.Turn.{Fed, Running, AfterFlush, AfterTurn, is_end};
 ghost use Rattle.sx_reading.specs.declared.status.Status.TheVariants as status;
 
@@ -87,10 +87,8 @@ fn run<D: Desk, C: Consumer>(file: u32, desk: &mut D, consumer: &mut C, buffer: 
     requires given { file < length (D.seen desk.old).opened }
     requires untouched { IsTrue (D.seen desk.old).told → (D.seen desk.old).taken file ≡ 0 }
     ensures frame { Frame file out.Result (D.seen desk.old) (D.seen desk.new) }
-    ensures runs { (written : WrittenFor) (outcome : OutcomeFor) → C.stands consumer.old written outcome [] false []
-        → Transforms written outcome file (D.seen desk.old) (D.seen desk.new) result }
-    ensures left { (written : WrittenFor) (outcome : OutcomeFor) → C.stands consumer.old written outcome [] false [] → result ≢ status.OutOfMemory
-        → Left written outcome (C.stands consumer.new written outcome) file (D.seen desk.old) (D.seen desk.new) result }
+    ensures runs { TransformsFor (C.stands consumer.old) file (D.seen desk.old) (D.seen desk.new) result }
+    ensures left { LeavesFor (C.stands consumer.old) (C.stands consumer.new) file (D.seen desk.old) (D.seen desk.new) result }
     ensures keeps { C.keeps consumer.old consumer.new }
 {
     match flush(desk, consumer) {
@@ -125,10 +123,8 @@ pub fn transfer<D: Desk, C: Consumer>(
     requires given { file < length (D.seen desk.old).opened }
     requires untouched { IsTrue (D.seen desk.old).told → (D.seen desk.old).taken file ≡ 0 }
     ensures frame { Frame file out.Result (D.seen desk.old) (D.seen desk.new) }
-    ensures runs { (written : WrittenFor) (outcome : OutcomeFor) → C.stands consumer.old written outcome [] false []
-        → Transforms written outcome file (D.seen desk.old) (D.seen desk.new) result }
-    ensures left { (written : WrittenFor) (outcome : OutcomeFor) → C.stands consumer.old written outcome [] false [] → result ≢ status.OutOfMemory
-        → Left written outcome (C.stands consumer.new written outcome) file (D.seen desk.old) (D.seen desk.new) result }
+    ensures runs { TransformsFor (C.stands consumer.old) file (D.seen desk.old) (D.seen desk.new) result }
+    ensures left { LeavesFor (C.stands consumer.old) (C.stands consumer.new) file (D.seen desk.old) (D.seen desk.new) result }
     ensures keeps { C.keeps consumer.old consumer.new }
 {
     match vec![in alloc; 0u8; PIECE] {

@@ -1,13 +1,15 @@
 -- What a runner stands for.
-use Rattle.std.specs.Prelude.{◌≡◌, ℕ, ◌^◌, ◌≤◌, Bool, false, List, [], ◌++◌, length, take, Option, Some, None}
+use Rattle.std.specs.Prelude.{◌≡◌, ℕ, ◌^◌, ◌≤◌, Bool, true, false, List, [], ◌∷◌, ◌++◌, length, take, Option, Some, None}
 use Rattle.sx_kinds.specs.declared.sheets.Sheet.{Sheet}
 use Rattle.sx_names.specs.Numbering.{NameTable, IsDistinct, KeepsPlaces}
 use Rattle.sx_lines.specs.Print.{ends_in_text}
-use Rattle.sx_named.specs.Named.{NamedElement}
+use Rattle.sx_named.specs.Named.{NamedElement, named_in_tree, IsKnown}
+use Rattle.sx_tree.specs.declared.events.Event.{Event}
 use Rattle.sx_tree.specs.Tree.{TreeEvent}
 use Rattle.sx_limits.specs.declared.limits.Limits.{Limits}
 use Rattle.sx_events.specs.Course.{events_of}
 use Rattle.sx_events.specs.Reader as reader
+use Rattle.sx_machine.specs.Growth.{MayCome}
 use Rattle.sx_machine.specs.Meaning.{IsReady}
 use Rattle.sx_machine.specs.Run.{Ending, done, waits, stops, is_done}
 use Rattle.sx_machine.specs.Session as session
@@ -86,3 +88,28 @@ pub record Runs (r : Runner) (written : WrittenFor) (outcome : OutcomeFor) (b : 
   pub writes : written ≡ run_written sheet names limits
   pub ends_at : outcome ≡ run_outcome sheet names limits
   pub stands : RunnerStands sheet names limits r b ended w
+
+-- An event was run, by the names of the first runner: what had happened to it has happened to the second, and behind it the event.
+abbrev pub Takes : Runner → Event → Runner → Type 0
+Takes old event new =
+    (sheet : Sheet) (known : NameTable) (limits : Limits) (p : List (TreeEvent NamedElement)) (w : List ℕ)
+    → KeepsPlaces known old.names → IsDistinct old.names → IsKnown old.names event → MayCome p (named_in_tree old.names event)
+    → Ran sheet known limits old p w → Ran sheet known limits new (p ++ named_in_tree old.names event ∷ []) w
+
+-- All events that have come were run.
+abbrev pub TakesAll : Runner → Runner → Type 0
+TakesAll old new =
+    (sheet : Sheet) (known : NameTable) (limits : Limits) (b w : List ℕ) (ended : Bool) → IsReady sheet known → limits.bytes ≤ 2 ^ 40
+    → Fed sheet known limits old b ended w → RunnerStands sheet known limits new b ended w
+
+-- The runner was fed these bytes more.
+abbrev pub Continues : Runner → List ℕ → Runner → Type 0
+Continues old piece new =
+    (sheet : Sheet) (known : NameTable) (limits : Limits) (b w : List ℕ)
+    → RunnerStands sheet known limits old b false w → RunnerStands sheet known limits new (b ++ piece) false w
+
+-- The runner was told of the end.
+abbrev pub Ends : Runner → Runner → Type 0
+Ends old new =
+    (sheet : Sheet) (known : NameTable) (limits : Limits) (b w : List ℕ)
+    → RunnerStands sheet known limits old b false w → RunnerStands sheet known limits new b true w

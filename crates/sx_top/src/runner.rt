@@ -1,15 +1,11 @@
 // The runner: bytes of a document in, the bytes of a stylesheet's result out, and no tree between.
 ghost use Rattle.std.specs.Prelude.{◌≡◌, ◌^◌, ◌≤◌, ◌++◌, ◌∷◌, [], List, ℕ, Bool, true, false, None, Some, IfOk, OnOk};
-ghost use Rattle.sx_limits.specs.declared.limits.Limits.{Limits as Bounds};
 ghost use Rattle.sx_kinds.specs.declared.sheets.Sheet.{Sheet as Stylesheet};
 ghost use Rattle.sx_lines.specs.Print.{is_text_event, print_all, ends_in_text, ending_of};
-ghost use Rattle.sx_machine.specs.Growth.{MayCome};
 ghost use Rattle.sx_machine.specs.Meaning.{IsReady};
 ghost use Rattle.sx_machine.specs.Session as machine;
 ghost use Rattle.sx_names.specs.Numbering.{NameTable, IsDistinct, KeepsPlaces};
-ghost use Rattle.sx_named.specs.Named.{NamedElement, named_in_tree, IsKnown};
 ghost use Rattle.sx_top.specs.Runner.{ended_in};
-ghost use Rattle.sx_tree.specs.Tree.{TreeEvent};
 
 use std::alloc::{AllocError, Global};
 use sx_events::{EventReader, Limits};
@@ -76,7 +72,7 @@ fn ended_in(state: State) -> Option<Outcome>
 
 impl Runner {
     ghost use Rattle.sx_events.specs.Reader as reader;
-    ghost use Rattle.sx_top.specs.Runner.{Ran, Fed, RunnerStands};
+    ghost use Rattle.sx_top.specs.Runner.{RunnerStands, Takes};
     ghost use Rattle.sx_machine.specs.declared.session.State.TheVariants as state;
 
     /// A runner that was fed nothing.
@@ -99,9 +95,7 @@ impl Runner {
 
     // Runs an event, and says whether the run goes on.
     fn take(&mut self, event: Event) -> Result<bool, AllocError>
-        ensures ran { OnOk result ((sheet : Stylesheet) (known : NameTable) (limits : Bounds) (p : List (TreeEvent NamedElement)) (w : List ℕ)
-            → KeepsPlaces known self.old.names → IsDistinct self.old.names → IsKnown self.old.names event → MayCome p (named_in_tree self.old.names event)
-            → Ran sheet known limits self.old p w → Ran sheet known limits self.new (p ++ named_in_tree self.old.names event ∷ []) w) }
+        ensures ran { OnOk result (Takes self.old event self.new) }
         ensures going { IfOk result (λ on. on ≡ true → (self.new.session.state ≡ state.Going)) }
         ensures ended { IfOk result (λ on. on ≡ false → (self.new.session.state ≡ state.Going → ⊥)) }
         ensures names { self.new.names ≡ self.old.names }
@@ -127,12 +121,11 @@ impl Runner {
 }
 
 impl Runner {
-    ghost use Rattle.sx_top.specs.Runner.{Fed, RunnerStands};
+    ghost use Rattle.sx_top.specs.Runner.{TakesAll, Continues, Ends};
 
     // Runs all events that have come, as long as the run goes on.
     fn take_events(&mut self) -> Result<(), AllocError>
-        ensures stands { OnOk result ((sheet : Stylesheet) (known : NameTable) (limits : Bounds) (b w : List ℕ) (ended : Bool) → IsReady sheet known → limits.bytes ≤ 2 ^ 40
-            → Fed sheet known limits self.old b ended w → RunnerStands sheet known limits self.new b ended w) }
+        ensures stands { OnOk result (TakesAll self.old self.new) }
         ensures kept { KeepsPlaces self.old.names self.new.names }
     {
         'events: loop {
@@ -156,8 +149,7 @@ impl Runner {
 
     // Takes the next bytes; behind an outcome they are dropped.
     fn take_bytes(&mut self, piece: &[u8]) -> Result<(), AllocError>
-        ensures stands { OnOk result ((sheet : Stylesheet) (known : NameTable) (limits : Bounds) (b w : List ℕ) → RunnerStands sheet known limits self.old b false w
-            → RunnerStands sheet known limits self.new (b ++ piece.now) false w) }
+        ensures stands { OnOk result (Continues self.old piece.now self.new) }
         ensures kept { KeepsPlaces self.old.names self.new.names }
     {
         if self.outcome.is_some() {
@@ -169,8 +161,7 @@ impl Runner {
 
     // The input has ended.
     fn end_input(&mut self) -> Result<(), AllocError>
-        ensures stands { OnOk result ((sheet : Stylesheet) (known : NameTable) (limits : Bounds) (b w : List ℕ) → RunnerStands sheet known limits self.old b false w
-            → RunnerStands sheet known limits self.new b true w) }
+        ensures stands { OnOk result (Ends self.old self.new) }
         ensures kept { KeepsPlaces self.old.names self.new.names }
     {
         if self.outcome.is_some() {
