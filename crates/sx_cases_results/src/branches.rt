@@ -1,21 +1,21 @@
 // Open trees and spines.
-ghost use Rattle.std.specs.Prelude.{◌≡◌, ◌<◌, ◌^◌, true, length, IfOk};
-ghost use Rattle.sx_tree.specs.Events.{MayFollow, happening_of, happenings_of, ends_in_text};
-ghost use Rattle.sx_tree.specs.Tree.{open_elements, tree_of};
+ghost use Rattle.std.specs.Prelude.{◌≡◌, ◌<◌, ◌-◌, ◌^◌, true};
+ghost use Rattle.sx_tree.specs.Events.{MayFollow, is_text, tree_event, tree_events};
+ghost use Rattle.sx_cases_results.specs.Growing.{IsKnown, elements_after, goes_on_after};
 
 use crate::notation::{append_word, chars_of, label_of};
 use sqlite_items::Items;
 use std::alloc::{AllocError, Global};
 use sx_names::Names;
-use sx_tree::{
-    Attr, Attrs, Chars, Event, Label, Leaf, OpenTree, Space, Spaces, Spine, SpineItem,
-};
+use sx_tree::{Attr, Attrs, Chars, Event, Label, Leaf, OpenTree, Space, Spaces, Spine, SpineItem};
 
 // The attributes among the words, each written `NAME=VALUE`.
 fn attrs_of(alloc: Global, names: &mut Names, words: &str) -> Result<Attrs, AllocError> {
     let mut attrs = Items::new(alloc);
     for word in words.split_whitespace() {
-        if let Some((name, value)) = word.split_once('=') && !word.starts_with('~') {
+        if let Some((name, value)) = word.split_once('=')
+            && !word.starts_with('~')
+        {
             attrs.push(Attr {
                 label: label_of(alloc, names, name)?,
                 value: chars_of(alloc, value)?,
@@ -77,13 +77,42 @@ fn event_of(alloc: Global, names: &mut Names, text: &str) -> Result<Event, Alloc
 }
 
 // How many elements are open behind an event.
-fn elements_behind(elements: u64, event: &Event) -> u64 {
+fn elements_behind(elements: u64, event: &Event) -> u64
+    requires { elements < 2 ^ 64 - 1 }
+    ensures { result ≡ elements_after elements event.now }
+{
     match event {
-        Event::Start { .. } => elements.saturating_add(1),
+        Event::Start { .. } => elements + 1,
         Event::End => elements.saturating_sub(1),
         Event::Text(_) => elements,
         Event::Pi { .. } => elements,
         Event::Close => elements,
+    }
+}
+
+// Whether an event is a text.
+fn is_text_event(event: &Event) -> bool
+    ensures { result ≡ is_text (tree_event event.now) }
+{
+    match event {
+        Event::Start { .. } => false,
+        Event::End => false,
+        Event::Text(_) => true,
+        Event::Pi { .. } => false,
+        Event::Close => false,
+    }
+}
+
+// Whether the document is open behind an event.
+fn goes_on(event: &Event) -> bool
+    ensures { result ≡ goes_on_after event.now }
+{
+    match event {
+        Event::Start { .. } => true,
+        Event::End => true,
+        Event::Text(_) => true,
+        Event::Pi { .. } => true,
+        Event::Close => false,
     }
 }
 
@@ -95,9 +124,7 @@ struct Growing {
     elements: u64,
     behind_text: bool,
     is_open: bool,
-    ghost counted: { elements ≡ length (open_elements (tree_of (happenings_of tree.events)).content) },
-    ghost text: { behind_text ≡ ends_in_text (happenings_of tree.events) },
-    ghost unclosed: { is_open ≡ (tree_of (happenings_of tree.events)).is_open },
+    ghost known: { IsKnown tree.events elements behind_text is_open },
 }
 
 impl Growing {
@@ -112,14 +139,18 @@ impl Growing {
 
     // Whether an event may come next.
     fn allows(&self, event: &Event) -> bool
-        ensures { result ≡ true → MayFollow (happenings_of self.now.tree.events) (happening_of event.now) }
+        ensures follows { result ≡ true → MayFollow (tree_events self.now.tree.events) (tree_event event.now) }
+        ensures room { result ≡ true → self.now.elements < 2 ^ 64 - 1 }
     {
+        if !self.is_open || self.elements == u64::MAX {
+            return false;
+        }
         match event {
-            Event::Start { .. } => self.is_open && self.elements < u64::MAX,
-            Event::End => self.is_open && self.elements > 0,
-            Event::Text(text) => self.is_open && !self.behind_text && !text.as_str().is_empty(),
-            Event::Pi { .. } => self.is_open,
-            Event::Close => self.is_open && self.elements == 0,
+            Event::Start { .. } => true,
+            Event::End => self.elements > 0,
+            Event::Text(text) => !self.behind_text && !text.as_str().is_empty(),
+            Event::Pi { .. } => true,
+            Event::Close => self.elements == 0,
         }
     }
 
@@ -128,13 +159,15 @@ impl Growing {
         if !self.allows(event) {
             return Ok("misplaced");
         }
-        if self.tree.push(event)?.is_err() {
-            return Ok("full");
+        match self.tree.push(event)? {
+            Ok(()) => {
+                self.elements = elements_behind(self.elements, event);
+                self.behind_text = is_text_event(event);
+                self.is_open = goes_on(event);
+                Ok("ok")
+            }
+            Err(_) => Ok("full"),
         }
-        self.elements = elements_behind(self.elements, event);
-        self.behind_text = matches!(event, Event::Text(_));
-        self.is_open = !matches!(event, Event::Close);
-        Ok("ok")
     }
 }
 
@@ -149,7 +182,14 @@ pub fn tree(alloc: Global, text: &str) -> Result<String, AllocError> {
         append_word(&mut out, growing.add(&event)?)?;
     }
     let Growing { tree, .. } = growing;
-    append_word(&mut out, if tree.close().is_ok() { "closed" } else { "open" })?;
+    append_word(
+        &mut out,
+        if tree.close().is_ok() {
+            "closed"
+        } else {
+            "open"
+        },
+    )?;
     Ok(out)
 }
 

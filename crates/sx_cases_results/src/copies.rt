@@ -113,7 +113,8 @@ fn show_modes(out: &mut String, modes: &Modes) -> Result<(), AllocError> {
             mode.name.is_some(),
             mode.declared,
             mode.streamable,
-            mode.no_match)?;
+            mode.no_match
+        )?;
         out.push_str(text.as_str())?;
     }
     Ok(())
