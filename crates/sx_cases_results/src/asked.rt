@@ -47,13 +47,12 @@ fn raw_of(alloc: Global, names: &mut Names, text: &str) -> Result<Raw, AllocErro
     }
 }
 
-// A result that is asked for, and the answers so far.
+// A table of names, and a result that is asked for.
 #[derive(Drop)]
 struct Asked {
     alloc: Global,
     names: Names,
     builder: Builder,
-    out: String,
 }
 
 impl Asked {
@@ -62,51 +61,64 @@ impl Asked {
             alloc,
             names: sx_names::new(alloc),
             builder: Builder::new(alloc),
-            out: String::new(alloc),
         }
     }
 
     // Makes a request. An error is an answer.
-    fn ask(&mut self, request: &str) -> Result<(), AllocError> {
+    fn ask(&mut self, out: &mut String, request: &str) -> Result<(), AllocError> {
         let raw = raw_of(self.alloc, &mut self.names, request)?;
         let copy = Raw::copy(self.alloc, &raw)?;
         match self.builder.push(copy, &self.names)? {
             Ok(()) => Ok(()),
-            Err(code) => append_word(&mut self.out, str::from_utf8(&code.text()).unwrap_or("?")),
+            Err(code) => append_word(out, str::from_utf8(&code.text()).unwrap_or("?")),
         }
     }
 
     // Takes what is given, each event printed by itself.
-    fn take(&mut self) -> Result<(), AllocError> {
+    fn take(&mut self, out: &mut String) -> Result<(), AllocError> {
         let mut bytes = Vec::new(self.alloc);
         for event in self.builder.output() {
             append(&mut bytes, false, event)?;
         }
         self.builder.clear_output();
-        append_word(&mut self.out, "")?;
-        show_bytes(&mut self.out, &bytes)
+        append_word(out, "")?;
+        show_bytes(out, &bytes)
+    }
+
+    // Takes what is given at the end.
+    fn take_last(&mut self, out: &mut String) -> Result<(), AllocError> {
+        self.builder.finish();
+        self.take(out)
+    }
+
+    fn ask_all(&mut self, requests: &str) -> Result<String, AllocError> {
+        let mut out = String::new(self.alloc);
+        for request in requests.split(" | ") {
+            self.ask(&mut out, request)?;
+        }
+        self.take_last(&mut out)?;
+        Ok(out)
+    }
+
+    fn ask_each(&mut self, requests: &str) -> Result<String, AllocError> {
+        let mut out = String::new(self.alloc);
+        for request in requests.split(" | ") {
+            self.ask(&mut out, request)?;
+            self.take(&mut out)?;
+        }
+        self.take_last(&mut out)?;
+        Ok(out)
     }
 }
 
 /// The errors that requests are answered with, and then all that is given.
 pub fn at_the_end(alloc: Global, text: &str) -> Result<String, AllocError> {
     let mut asked = Asked::new(alloc);
-    for request in text.split(" | ") {
-        asked.ask(request)?;
-    }
-    asked.builder.finish();
-    asked.take()?;
-    Ok(asked.out)
+    asked.ask_all(text)
 }
 
 /// What is given behind each request, with its error in front, and at the end.
 pub fn step_by_step(alloc: Global, text: &str) -> Result<String, AllocError> {
     let mut asked = Asked::new(alloc);
-    for request in text.split(" | ") {
-        asked.ask(request)?;
-        asked.take()?;
-    }
-    asked.builder.finish();
-    asked.take()?;
-    Ok(asked.out)
+    asked.ask_each(text)
 }

@@ -171,26 +171,54 @@ impl Growing {
     }
 }
 
+// Adds an event that a case writes so.
+fn added(
+    alloc: Global,
+    names: &mut Names,
+    growing: &mut Growing,
+    text: &str,
+) -> Result<&'static str, AllocError> {
+    let event = event_of(alloc, names, text)?;
+    growing.add(&event)
+}
+
+// Adds events, and gives the answers.
+fn all_added(
+    alloc: Global,
+    names: &mut Names,
+    growing: &mut Growing,
+    events: &str,
+) -> Result<String, AllocError> {
+    let mut out = String::new(alloc);
+    for text in events.split(" | ") {
+        append_word(&mut out, added(alloc, names, growing, text)?)?;
+    }
+    Ok(out)
+}
+
+// Whether a tree can be closed.
+fn ending(tree: OpenTree) -> &'static str {
+    if tree.close().is_ok() {
+        "closed"
+    } else {
+        "open"
+    }
+}
+
+// The answers, and whether the tree can be closed then.
+fn grown(alloc: Global, mut growing: Growing, events: &str) -> Result<String, AllocError> {
+    let mut names = sx_names::new(alloc);
+    let mut out = all_added(alloc, &mut names, &mut growing, events)?;
+    let Growing { tree, .. } = growing;
+    append_word(&mut out, ending(tree))?;
+    Ok(out)
+}
+
 /// What the pushes of events are answered with, and whether the tree can be closed behind them.
 pub fn tree(alloc: Global, text: &str) -> Result<String, AllocError> {
     let (limit, events) = text.split_once(' ').unwrap_or((text, ""));
-    let mut names = sx_names::new(alloc);
-    let mut growing = Growing::new(alloc, limit.parse::<u32>().unwrap_or(0));
-    let mut out = String::new(alloc);
-    for event in events.split(" | ") {
-        let event = event_of(alloc, &mut names, event)?;
-        append_word(&mut out, growing.add(&event)?)?;
-    }
-    let Growing { tree, .. } = growing;
-    append_word(
-        &mut out,
-        if tree.close().is_ok() {
-            "closed"
-        } else {
-            "open"
-        },
-    )?;
-    Ok(out)
+    let limit = limit.parse::<u32>().unwrap_or(0);
+    grown(alloc, Growing::new(alloc, limit), events)
 }
 
 // What a push of an entry is answered with: how many entries there are, or that there is no room.
@@ -242,13 +270,18 @@ fn repeated(alloc: Global, spine: &mut Spine, word: &str) -> Result<String, Allo
     Ok(answer)
 }
 
-/// What a spine answers to words in turn.
-pub fn spine(alloc: Global, text: &str) -> Result<String, AllocError> {
-    let mut spine = Spine::new();
+// The answers to words in turn.
+fn all_branched(alloc: Global, spine: &mut Spine, words: &str) -> Result<String, AllocError> {
     let mut out = String::new(alloc);
-    for word in text.split(' ') {
-        let answer = repeated(alloc, &mut spine, word)?;
+    for word in words.split(' ') {
+        let answer = repeated(alloc, spine, word)?;
         append_word(&mut out, answer.as_str())?;
     }
     Ok(out)
+}
+
+/// What a spine answers to words in turn.
+pub fn spine(alloc: Global, text: &str) -> Result<String, AllocError> {
+    let mut spine = Spine::new();
+    all_branched(alloc, &mut spine, text)
 }

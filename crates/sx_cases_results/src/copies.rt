@@ -145,20 +145,44 @@ fn show_templates(
     Ok(())
 }
 
+// A stylesheet of one template with these instructions, each round those behind it.
+fn sheet_of(alloc: Global, names: &mut Names, words: &str) -> Result<Sheet, AllocError> {
+    let body = body_of(alloc, names, words)?;
+    let templates = templates_with(alloc, body)?;
+    let constructs = 2_u64.saturating_add(words.split(' ').count() as u64);
+    match streamable_mode(alloc) {
+        Ok(modes) => Ok(Sheet {
+            modes,
+            templates,
+            constructs,
+        }),
+        Err(error) => Err(error),
+    }
+}
+
+fn sheet_shown(alloc: Global, names: &Names, sheet: &Sheet) -> Result<String, AllocError> {
+    let mut out = format!(in alloc; "{} constructs,", sheet.constructs)?;
+    show_modes(&mut out, &sheet.modes)?;
+    show_templates(&mut out, names, &sheet.templates)?;
+    Ok(out)
+}
+
+// A copy of a stylesheet, as answers show it.
+fn copy_shown(alloc: Global, names: &Names, sheet: &Sheet) -> Result<String, AllocError> {
+    let copy = Sheet::copy(alloc, sheet)?;
+    sheet_shown(alloc, names, &copy)
+}
+
+// A copy of such a stylesheet.
+fn sheet_copied(alloc: Global, names: &mut Names, words: &str) -> Result<String, AllocError> {
+    let sheet = sheet_of(alloc, names, words)?;
+    copy_shown(alloc, names, &sheet)
+}
+
 /// A copy of a stylesheet of one template with these instructions, each round those behind it.
 pub fn sheet(alloc: Global, text: &str) -> Result<String, AllocError> {
     let mut names = sx_names::new(alloc);
-    let body = body_of(alloc, &mut names, text)?;
-    let sheet = Sheet {
-        modes: streamable_mode(alloc)?,
-        templates: templates_with(alloc, body)?,
-        constructs: 2_u64.saturating_add(text.split(' ').count() as u64),
-    };
-    let copy = Sheet::copy(alloc, &sheet)?;
-    let mut out = format!(in alloc; "{} constructs,", copy.constructs)?;
-    show_modes(&mut out, &copy.modes)?;
-    show_templates(&mut out, &names, &copy.templates)?;
-    Ok(out)
+    sheet_copied(alloc, &mut names, text)
 }
 
 // So many signs before the context item, the innermost with the number 0.

@@ -3,17 +3,22 @@ use crate::notation::bytes_of;
 use crate::sources::{EventSource, LineSource, Next, Source};
 use std::alloc::{AllocError, Global};
 
-// What has been read: what came, the fault behind it, and whether nothing else was answered behind the fault.
+// What has been read: what came, the number of the line of the last of it, the fault behind it, and whether nothing else was
+// answered behind the fault.
 #[derive(Drop)]
 struct Reading {
     out: String,
+    line: u64,
     fault: Option<String>,
     steady: bool,
 }
 
 impl Reading {
-    fn add(&mut self, text: &str) -> Result<(), AllocError> {
+    fn add(&mut self, line: u64, text: &str) -> Result<(), AllocError> {
         self.steady &= self.fault.is_none();
+        self.line = line;
+        let number = format!(in *self.out.allocator(); "{line}")?;
+        self.out.push_str(number.as_str())?;
         self.out.push_str(text)?;
         self.out.push(';')
     }
@@ -22,7 +27,8 @@ impl Reading {
         self.steady &= self.fault.is_none();
     }
 
-    fn break_off(&mut self, text: String) {
+    fn break_off(&mut self, line: u64, text: String) {
+        self.steady &= line == self.line;
         if let Some(fault) = &self.fault {
             self.steady &= fault.as_str() == text.as_str();
         }
@@ -32,6 +38,7 @@ impl Reading {
     fn finish(self) -> Result<String, AllocError> {
         let Reading {
             mut out,
+            line: _,
             fault,
             steady,
         } = self;
@@ -50,9 +57,9 @@ impl Reading {
 fn take_all<S: Source>(source: &mut S, reading: &mut Reading) -> Result<(), AllocError> {
     for _ in 0..1000 {
         match source.next()? {
-            Next::Item(text) => reading.add(text.as_str())?,
+            Next::Item(text) => reading.add(source.line(), text.as_str())?,
             Next::Fault(text) => {
-                reading.break_off(text);
+                reading.break_off(source.line(), text);
                 return Ok(());
             }
             Next::Nothing => {
@@ -80,6 +87,7 @@ fn read<S: Source>(
 ) -> Result<String, AllocError> {
     let mut reading = Reading {
         out: String::new(alloc),
+        line: 0,
         fault: None,
         steady: true,
     };

@@ -72,15 +72,20 @@ fn number(alloc: Global, names: &mut Names, step: &str) -> Result<String, AllocE
     format!(in alloc; "{number}")
 }
 
-/// The answers of a table of names to what comes in turn.
-pub fn numbers(alloc: Global, text: &str) -> Result<String, AllocError> {
-    let mut names = sx_names::new(alloc);
+// The answers to what comes in turn.
+fn all_numbers(alloc: Global, names: &mut Names, steps: &str) -> Result<String, AllocError> {
     let mut out = String::new(alloc);
-    for step in text.split(' ') {
-        let answer = number(alloc, &mut names, step)?;
+    for step in steps.split(' ') {
+        let answer = number(alloc, names, step)?;
         append_word(&mut out, answer.as_str())?;
     }
     Ok(out)
+}
+
+/// The answers of a table of names to what comes in turn.
+pub fn numbers(alloc: Global, text: &str) -> Result<String, AllocError> {
+    let mut names = sx_names::new(alloc);
+    all_numbers(alloc, &mut names, text)
 }
 
 // A scope, and how many elements were entered and not left.
@@ -137,21 +142,36 @@ fn binding(alloc: Global, scope: &Scope, prefix: &str) -> Result<String, AllocEr
     }
 }
 
+// Takes a step, or appends the answer to a question.
+fn append_binding(
+    alloc: Global,
+    entered: &mut Entered,
+    out: &mut String,
+    step: &str,
+) -> Result<(), AllocError> {
+    match step.strip_prefix('?') {
+        Some(prefix) => {
+            let answer = binding(alloc, &entered.scope, prefix)?;
+            append_word(out, answer.as_str())
+        }
+        None => entered.take(step),
+    }
+}
+
+// The answers to what comes in turn.
+fn all_bindings(alloc: Global, entered: &mut Entered, steps: &str) -> Result<String, AllocError> {
+    let mut out = String::new(alloc);
+    for step in steps.split(' ') {
+        append_binding(alloc, entered, &mut out, step)?;
+    }
+    Ok(out)
+}
+
 /// What prefixes are bound to where elements are entered, declare namespaces, and are left.
 pub fn bindings(alloc: Global, text: &str) -> Result<String, AllocError> {
     let mut entered = Entered {
         scope: Scope::new(alloc),
         elements: 0,
     };
-    let mut out = String::new(alloc);
-    for step in text.split(' ') {
-        match step.strip_prefix('?') {
-            Some(prefix) => {
-                let answer = binding(alloc, &entered.scope, prefix)?;
-                append_word(&mut out, answer.as_str())?;
-            }
-            None => entered.take(step)?,
-        }
-    }
-    Ok(out)
+    all_bindings(alloc, &mut entered, text)
 }

@@ -11,7 +11,7 @@ use sx_tree::{Attr, Event, Space};
 /// What a reader gives next.
 #[derive(Drop)]
 pub enum Next {
-    /// a line or an event, with its number in front
+    /// a line or an event
     Item(String),
     /// the fault
     Fault(String),
@@ -32,6 +32,9 @@ pub trait Source: Drop {
 
     /// What comes next.
     fn next(&mut self) -> Result<Next, AllocError>;
+
+    /// The number of the line of what was given last.
+    fn line(&self) -> u64;
 }
 
 /// A reader of lines.
@@ -97,16 +100,18 @@ impl Source for LineSource {
 
     fn next(&mut self) -> Result<Next, AllocError> {
         let alloc = self.alloc;
-        let line = match self.lines.next() {
-            None => return Ok(Next::Nothing),
+        match self.lines.next() {
+            None => Ok(Next::Nothing),
             Some(Err(fault)) => {
                 let text = format!(in alloc; "{:?} {}", fault.which, fault.line)?;
-                return Ok(Next::Fault(text));
+                Ok(Next::Fault(text))
             }
-            Some(Ok(view)) => line_shown(alloc, view)?,
-        };
-        let text = format!(in alloc; "{}{}", self.lines.line(), line.as_str())?;
-        Ok(Next::Item(text))
+            Some(Ok(view)) => Ok(Next::Item(line_shown(alloc, view)?)),
+        }
+    }
+
+    fn line(&self) -> u64 {
+        self.lines.line()
     }
 }
 
@@ -208,11 +213,11 @@ impl Source for EventSource {
                 let text = format!(in alloc; "{} {}", fault.which.name(), fault.line)?;
                 Ok(Next::Fault(text))
             }
-            Some(Ok(event)) => {
-                let event = event_shown(alloc, &self.names, &event)?;
-                let text = format!(in alloc; "{}{}", self.reader.line(), event.as_str())?;
-                Ok(Next::Item(text))
-            }
+            Some(Ok(event)) => Ok(Next::Item(event_shown(alloc, &self.names, &event)?)),
         }
+    }
+
+    fn line(&self) -> u64 {
+        self.reader.line()
     }
 }
