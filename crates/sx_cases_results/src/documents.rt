@@ -1,6 +1,6 @@
 // What is read of a document, however its bytes are cut.
 use crate::notation::bytes_of;
-use crate::sources::{EventSource, LineSource, Next, Source};
+use crate::sources::{EventSource, LineSource, Next, Source, first_fault};
 use std::alloc::{AllocError, Global};
 
 // What has been read: what came, the number of the line of the last of it, the fault behind it, and whether nothing else was
@@ -121,7 +121,7 @@ fn read_in_all_ways<S: Source>(
     bytes: &[u8],
 ) -> Result<String, AllocError> {
     let whole = read(S::make(alloc, limit), alloc, bytes, 0, bytes.len())?;
-    for length in 1..bytes.len() {
+    for length in 1..bytes.len() + 1 {
         if !is_read_so::<S>(alloc, limit, bytes, length, whole.as_str())? {
             return format!(in alloc; "differs at {length}");
         }
@@ -155,5 +155,5 @@ pub fn events(alloc: Global, text: &str) -> Result<String, AllocError> {
 pub fn fault(alloc: Global, text: &str) -> Result<String, AllocError> {
     let (limit, document) = with_limit(text);
     let bytes = bytes_of(alloc, document)?;
-    crate::sources::first_fault(alloc, limit, &bytes)
+    first_fault(alloc, limit, &bytes)
 }
