@@ -1,6 +1,5 @@
 -- The types of calls of functions.
 use Rattle.std.specs.Prelude.{Bool, true, false, if◌then◌else◌, Option, Some, None}
-use Rattle.sx_atoms.specs.Numbers.{◌>>=◌}
 use Rattle.sx_atoms.specs.declared.functions.SeqFn.{SeqFn}
 use Rattle.sx_atoms.specs.declared.functions.SeqFn.TheVariants as fn
 use Rattle.sx_atoms.specs.declared.functions.TextFn.{TextFn}

@@ -1,6 +1,7 @@
 pub mod Calls
 pub mod Formed
 pub mod Kinds
+pub mod Lending
 pub mod Origins
 pub mod Parts
 pub mod Paths

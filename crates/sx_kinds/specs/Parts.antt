@@ -1,5 +1,5 @@
 -- What is known of the parts of an expression together.
-use Rattle.std.specs.Prelude.{ℕ, Bool, true, false, not, if◌then◌else◌, ◌&&◌, ◌||◌, ◌==◌, List, [], ◌∷◌, Option, Some, None}
+use Rattle.std.specs.Prelude.{ℕ, Bool, true, false, if◌then◌else◌, ◌&&◌, ◌||◌, ◌==◌, List, [], ◌∷◌, Option, Some, None}
 use Rattle.std.specs.List.{list_any}
 use Rattle.sx_kinds.specs.declared.types.Origin.{Origin}
 use Rattle.sx_kinds.specs.declared.types.Origin.TheVariants.{Source, Forest}

@@ -1,9 +1,11 @@
 // Lists of what may hold such lists.
-ghost use Rattle.std.specs.Prelude.{◌≡◌, ◌<◌, [], ◌∷◌, ◌++◌, length, slice_index_or, slice_set, IsTrue, ◌↔◌, MatchOption, OnOk, OnErr};
+ghost use Rattle.std.specs.Prelude.{◌≡◌, ◌<◌, [], ◌∷◌, ◌++◌, length, slice_index_or, slice_set};
+ghost use Rattle.std.specs.Prelude.{IsTrue, ◌↔◌, MatchOption, OnOk, OnErr};
+ghost use Rattle.std.specs.Borrow.{sem};
+ghost use Rattle.sx_kinds.specs.Lending.{LendsPart};
 
 use std::alloc::{AllocError, Global};
 use std::marker::Model;
-use std::mem;
 
 /// What hangs below a value of a tree: a list, which contracts see as that. Its drop is a call of its own, so that a tree's own
 /// drop may take the list apart and be a loop.
@@ -66,16 +68,14 @@ impl<T> Branches<T> {
     {
         self.items.pop()
     }
-}
 
-impl<T> Branches<T> {
-    /// Takes one out, by its place from 0, and puts another one there.
-    pub fn replace(&mut self, place: usize, item: T) -> T
+    /// Lends one, by its place from 0, to be changed where it stands.
+    pub fn part_mut(&mut self, place: usize) -> &mut T
         requires { place < length self.old }
-        ensures taken { result ≡ slice_index_or self.old place result }
-        ensures put { self.new ≡ slice_set self.old place item }
+        ensures* writes_back { sem 𝓛 (LendsPart T.row self.entry place result) }
+        ensures value { result.now ≡ slice_index_or self.old place result.now }
     {
-        mem::replace(&mut self.items[place], item)
+        &mut self.items[place]
     }
 }
 

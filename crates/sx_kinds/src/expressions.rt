@@ -113,7 +113,7 @@ pub enum ExprForm {
     /// a call; the parts are the arguments, and `ty` is the type of the current item or group where one is called for (3.1.5).
     /// `accumulator` is the number of the name of the accumulator that a call of `accumulator-before` or `accumulator-after`
     /// names in its literal: the prefix in there means what it does on the element of the stylesheet, so that the name is known
-    /// only where the stylesheet is read. `None` until then, and in any other call (XSLT 3.0, 18.2.7)
+    /// only where the stylesheet is read. `None` until then, and in any other call (XSLT 3.0, 18.2.6 and 18.2.7)
     Call {
         function: Function,
         ty: Ty,

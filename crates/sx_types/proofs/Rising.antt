@@ -1,10 +1,9 @@
 -- What settling makes of an expression whose first part is settled.
-use Rattle.std.proofs.Common.{◌≡◌, ℕ, ◌<◌, List, [], ◌∷◌, ◌++◌, length, drop, map, None, Result, Ok, ap, refl, sym, ◌∙◌, subst, arith}
+use Rattle.std.proofs.Common.{◌≡◌, ◌<◌, List, [], ◌∷◌, ◌++◌, length, drop, map, None, Result, Ok, ap, refl, sym, ◌∙◌, subst, arith}
 use Rattle.sx_atoms.specs.declared.error_codes.Code.{Code}
 use Rattle.sx_kinds.specs.Settled.{Place, and_one, bound, inner, settled, settled_parts, settling_of}
-use Rattle.sx_kinds.specs.Types.{below, each, focus, parts_of, typing}
+use Rattle.sx_kinds.specs.Types.{each, focus, parts_of, typing}
 use Rattle.sx_kinds.specs.declared.expressions.Expr.{Expr}
-use Rattle.sx_kinds.specs.declared.expressions.Expr.TheOpen.{Expr-F}
 use Rattle.sx_kinds.specs.declared.expressions.Expr.TheViews.{out-Expr}
 use Rattle.sx_kinds.specs.declared.expressions.ExprForm.{ExprForm}
 use Rattle.sx_kinds.specs.declared.expressions.ExprForm.TheVariants as forms
@@ -12,7 +11,7 @@ use Rattle.sx_kinds.specs.declared.types.Parts.{Parts}
 use Rattle.sx_kinds.specs.declared.types.Ty.{Ty}
 use Rattle.sx_kinds.specs.declared.types.Typing.{Typing}
 use Rattle.sx_kinds.specs.declared.types.VarType.{VarType}
-use Rattle.sx_kinds.specs.Ways.{front, levels, next}
+use Rattle.sx_kinds.specs.Ways.{levels, next}
 use Rattle.sx_kinds.specs.declared.walks.Way.TheVariants.{OneFocus}
 use Rattle.sx_kinds.proofs.Ways.{down_one}
 use Rattle.sx_types.specs.Settling.{IsBegun, IsSettledAt, inside, next_part, together}

@@ -36,7 +36,8 @@ AreKnown e parts context outer known before =
 
 -- an expression with these parts, with its own fields settled by what is known of it in this context
 abbrev pub finished_in : Expr → Place → List Expr → Ty → Expr
-finished_in e here parts outer = finished (out-Expr e) here parts (typing (with_parts (out-Expr e) parts) outer)
+finished_in e here parts outer =
+    finished (out-Expr e) here parts (typing (with_parts (out-Expr e) parts) outer)
 
 -- a part behind these: settled, or as it was behind one that has a code
 abbrev pub next_part : ExprForm → Place → Result (List Typing) Code → Expr → Expr
@@ -47,7 +48,8 @@ next_part form here (Ok ts) part = settled part (inner form here (first_of ts))
 abbrev pub known_after : ExprForm → Place → Result (List Typing) Code → Expr → Result (List Typing) Code
 known_after form here (Err code) part = Err code
 known_after form here (Ok ts) part =
-    and_one ts (typing (settled part (inner form here (first_of ts))) (inner form here (first_of ts)).context)
+    let place = inner form here (first_of ts) in
+    and_one ts (typing (settled part place) place.context)
 
 -- the place of the parts of an expression before any of them is known
 abbrev pub inside : Expr → Place → Place

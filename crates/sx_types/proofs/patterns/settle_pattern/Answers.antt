@@ -3,7 +3,6 @@ use Rattle.sx_atoms.specs.declared.error_codes.Code.{Code}
 use Rattle.sx_kinds.specs.Patterns.{have_types, settled_each}
 use Rattle.sx_kinds.specs.Settled.{place}
 use Rattle.sx_kinds.specs.declared.expressions.Expr.{Expr}
-use Rattle.sx_kinds.specs.declared.expressions.Pattern.{Pattern}
 use Rattle.sx_types.specs.Settling.{next_alternative}
 use Rattle.sx_types.proofs.Alternatives.{each_end, each_more, pattern_stays_at, types_more}
 use Rattle.sx_types.proofs.patterns.settle_pattern.Goals as goal

@@ -1,4 +1,4 @@
-use Rattle.std.proofs.Common.{◌≡◌, ◌+◌, ◌-◌, ◌/◌, ◌<◌, ◌≤◌, List, [], ◌∷◌, ◌++◌, IfOk, length, drop, map, Ok, ap, refl, sym, subst, ◌∙◌, ℕ, arith}
+use Rattle.std.proofs.Common.{◌≡◌, ◌+◌, ◌-◌, ◌/◌, ◌<◌, List, [], ◌∷◌, ◌++◌, IfOk, length, drop, map, Ok, ap, refl, sym, subst, ◌∙◌, ℕ, arith}
 use Rattle.sx_kinds.specs.Settled.{Place, settled_parts, settling_of}
 use Rattle.sx_kinds.specs.Types.{each, typing}
 use Rattle.sx_kinds.specs.declared.expressions.Expr.{Expr}
