@@ -1,5 +1,5 @@
 -- Each text is read or refused.
-use Rattle.std.proofs.Common.{◌≡◌, ℕ, ◌⊎◌, inl, inr, Bool, false, List, [], ◌++◌, length, take, Option, Some, None, refl, ap, sym, ◌∙◌, append-nil}
+use Rattle.std.proofs.Common.{◌≡◌, ℕ, ◌⊎◌, inl, inr, Bool, List, [], ◌++◌, length, take, Option, Some, None, refl, sym, ◌∙◌, append-nil}
 use Rattle.std.proofs.Math.Seq.{take-length}
 use Rattle.sx_lex.specs.Tokens.{AreTokens}
 use Rattle.sx_lex.specs.declared.kinds.Token.{Token}

@@ -1,5 +1,5 @@
 -- What is read is formed: each expression has as many parts as its form asks for, and numbers change nothing of that.
-use Rattle.std.proofs.Common.{◌≡◌, ℕ, suc, ◌+◌, ◌≤◌, Bool, true, false, ◌&&◌, List, [], ◌∷◌, ◌++◌, length, map, not, Option, None, Some, Result, Ok, Err, IfOk, MatchResult, refl, ap, sym, subst, ◌∙◌, arith, length-append}
+use Rattle.std.proofs.Common.{◌≡◌, ℕ, suc, ◌+◌, ◌≤◌, Bool, true, false, ◌&&◌, List, [], ◌∷◌, ◌++◌, length, map, not, Option, None, Some, refl, ap, sym, subst, ◌∙◌, arith, length-append}
 use Rattle.std.proofs.lemmas.Bool.{false≢true}
 use Rattle.std.proofs.lemmas.Bool.Decides.{nat_tests}
 use Rattle.std.proofs.lemmas.Option.{none-some}
@@ -13,7 +13,6 @@ use Rattle.sx_kinds.specs.declared.constructs.ConstructKind.TheVariants as kind
 use Rattle.sx_atoms.specs.declared.arithmetic.ArithOp.TheVariants as arith_op
 use Rattle.sx_kinds.specs.declared.expressions.Deep.TheVariants as deep
 use Rattle.sx_kinds.specs.declared.expressions.AvtPart.{AvtPart}
-use Rattle.sx_kinds.specs.declared.expressions.AvtPart.TheVariants as avt_part
 use Rattle.sx_kinds.specs.declared.expressions.Expr.{Expr}
 use Rattle.sx_kinds.specs.declared.expressions.Expr.TheFolds.{fold-roll-Expr, ind-Expr}
 use Rattle.sx_kinds.specs.declared.expressions.Expr.TheOpen.{Expr-F}
