@@ -3,8 +3,10 @@ use crate::stops::{Stop, code};
 use crate::trees::atom;
 use crate::values::{joined, open, value, written_atoms};
 use std::alloc::{AllocError, Global};
-use sx_arguments::{Positions, Signature, ceiling, floor, number, positions, round, text};
-use sx_atoms::{Args, Atom, AtomType, Code, cast, castable, print};
+use sx_atoms::arguments::{argument, given, number, positions, text};
+use sx_atoms::{
+    Args, Atom, AtomType, Code, Positions, Signature, cast, castable, ceiling, floor, print, round,
+};
 use sx_fn_seq::{is_answerable, signature_seq};
 use sx_fn_text::signature_text;
 use sx_kinds::{ExprForm, Function};
@@ -111,14 +113,7 @@ pub fn of_value(
 
 // What one or two numbers select.
 fn selected(alloc: Global, numbers: &Args) -> Result<Positions, Stop> {
-    let Some(first) = numbers.get(0) else {
-        return Err(Stop::Unfit);
-    };
-    let count = match numbers.get(1) {
-        Some(count) => Some(count.as_slice()),
-        None => None,
-    };
-    Ok(positions(alloc, first.as_slice(), count)??)
+    Ok(positions(alloc, argument(numbers, 0), given(numbers, 1))??)
 }
 
 // Which of the positions 1 to 7 are selected, each behind a space.

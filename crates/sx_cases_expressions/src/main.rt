@@ -37,6 +37,7 @@ fn of_readings(
         "type" => Some(types::type_in_document(alloc, text, names)),
         "type-in-copy" => Some(types::type_in_copy(alloc, text, names)),
         "settle" => Some(types::settle_twice(alloc, text, names)),
+        "settle-pattern" => Some(types::settle_in_pattern(alloc, text, names)),
         _ => None,
     }
 }

@@ -42,8 +42,9 @@ pub fn read(alloc: Global, text: &str, names: &mut Names, at: &mut Numbering) ->
     Ok(parse_expr(alloc, text, &scope, names, at)??)
 }
 
+/// Reads a pattern.
 #[inline(never)]
-fn read_pattern(
+pub fn read_pattern(
     alloc: Global,
     text: &str,
     names: &mut Names,
@@ -154,8 +155,8 @@ pub fn expression(
     Ok(written_as(alloc, asked, &e, names, at)?)
 }
 
-// The alternatives of a pattern, with a bar between them.
-fn alternatives(alloc: Global, pattern: &Pattern, names: &Names) -> Result<String, AllocError> {
+/// The alternatives of a pattern as trees, with a bar between them.
+pub fn alternatives(alloc: Global, pattern: &Pattern, names: &Names) -> Result<String, AllocError> {
     let mut all = String::new(alloc);
     for alternative in pattern.alternatives.as_slice() {
         all.push_str(if all.is_empty() { "" } else { " | " })?;

@@ -1,13 +1,10 @@
 // Expressions as text, and the numbers of their constructs.
 use sqlite_items::Items;
 use std::alloc::{AllocError, Global};
-use sx_atoms::{Atom, print};
+use sx_atoms::{Atom, UNITS, print};
 use sx_kinds::{Construct, ConstructKind, Deep, Expr, ExprForm, Function, Origin, Ty, TyKind};
 use sx_names::Names;
 use sx_tree::NodeTest;
-
-// How many units of a decimal make one.
-const ONE: i128 = 1_000_000_000;
 
 /// The line on which each construct of a row stands.
 pub const LINE: u64 = 9;
@@ -74,7 +71,7 @@ pub fn atom(alloc: Global, atom: &Atom) -> Result<String, AllocError> {
     let text = text.as_str();
     match atom {
         Atom::Int(_) => copied(alloc, text),
-        Atom::Dec(d) if d.0 % ONE == 0 => format!(in alloc; "{text}.0"),
+        Atom::Dec(d) if d.0 % UNITS == 0 => format!(in alloc; "{text}.0"),
         Atom::Dec(_) => copied(alloc, text),
         Atom::Str(_) => format!(in alloc; "'{text}'"),
         Atom::Bool(_) => format!(in alloc; "{text}()"),
@@ -97,12 +94,28 @@ fn typed(alloc: Global, ty: &Ty) -> Result<String, AllocError> {
     format!(in alloc; "<{text}>")
 }
 
-fn call(alloc: Global, function: Function, ty: &Ty) -> Result<String, AllocError> {
-    let typed = typed(alloc, ty)?;
+fn function_name(alloc: Global, function: Function) -> Result<String, AllocError> {
     match function {
-        Function::Text(f) => format!(in alloc; "{f:?}{typed}"),
-        Function::Seq(f) => format!(in alloc; "{f:?}{typed}"),
+        Function::Text(f) => format!(in alloc; "{f:?}"),
+        Function::Seq(f) => format!(in alloc; "{f:?}"),
     }
+}
+
+// A call: its function, the type of what it calls for, and the accumulator that it names.
+fn call(
+    alloc: Global,
+    function: Function,
+    ty: &Ty,
+    accumulator: Option<u64>,
+    names: &Names,
+) -> Result<String, AllocError> {
+    let mut text = function_name(alloc, function)?;
+    text.push_str(typed(alloc, ty)?.as_str())?;
+    if let Some(number) = accumulator {
+        text.push_str(" of ")?;
+        text.push_str(name(alloc, number, names)?.as_str())?;
+    }
+    Ok(text)
 }
 
 fn mark(optional: bool) -> &'static str {
@@ -144,7 +157,11 @@ fn said(alloc: Global, form: &ExprForm, names: &Names) -> Result<String, AllocEr
         ExprForm::Empty => copied(alloc, "()"),
         ExprForm::Dot => copied(alloc, "."),
         ExprForm::Root => copied(alloc, "/"),
-        ExprForm::Call { function, ty } => call(alloc, *function, ty),
+        ExprForm::Call {
+            function,
+            ty,
+            accumulator,
+        } => call(alloc, *function, ty, *accumulator, names),
         _ => operator(alloc, form),
     }
 }

@@ -1,13 +1,13 @@
 // The types of expressions, and what these write into them.
-use crate::readings::{begin, read};
+use crate::readings::{alternatives, begin, read, read_pattern};
 use crate::stops::{Stop, code};
 use crate::trees::{tree, type_text};
 use sqlite_items::Items;
 use std::alloc::{AllocError, Global};
 use sx_atoms::Code;
-use sx_kinds::{Expr, Origin, Ty, TyKind, VarType, VarTypes};
+use sx_kinds::{Expr, Origin, Pattern, Ty, TyKind, VarType, VarTypes};
 use sx_names::Names;
-use sx_types::{settle, type_of};
+use sx_types::{settle, settle_pattern, type_of};
 
 // An element of the document.
 const ELEMENT: Ty = Ty {
@@ -66,7 +66,18 @@ fn typed(alloc: Global, answer: Result<Ty, Code>) -> Result<String, AllocError> 
     }
 }
 
-// Settles an expression. The answer is its tree then, and the code, if it has one.
+// A tree, and the code that it has, if any.
+fn with_code(alloc: Global, tree: String, answer: Result<(), Code>) -> Result<String, AllocError> {
+    match answer {
+        Ok(()) => Ok(tree),
+        Err(failure) => {
+            let code = code(alloc, failure)?;
+            format!(in alloc; "{tree} {code}")
+        }
+    }
+}
+
+// Settles an expression. The answer is its tree then, and its code.
 fn settled(
     alloc: Global,
     e: &mut Expr,
@@ -75,14 +86,18 @@ fn settled(
 ) -> Result<String, AllocError> {
     let vars = variables(alloc, names)?;
     let answer = settle(alloc, e, context, &GROUP, &vars)?;
-    let tree = tree(alloc, e, names)?;
-    match answer {
-        Ok(()) => Ok(tree),
-        Err(failure) => {
-            let code = code(alloc, failure)?;
-            format!(in alloc; "{tree} {code}")
-        }
-    }
+    with_code(alloc, tree(alloc, e, names)?, answer)
+}
+
+// Settles a pattern. The answer is its alternatives then, and its code.
+fn settled_pattern(
+    alloc: Global,
+    pattern: &mut Pattern,
+    names: &mut Names,
+) -> Result<String, AllocError> {
+    let vars = variables(alloc, names)?;
+    let answer = settle_pattern(alloc, pattern, &ELEMENT, &GROUP, &vars)?;
+    with_code(alloc, alternatives(alloc, pattern, names)?, answer)
 }
 
 // The type of an expression in a context when it is settled, behind that which it has before where the two are to be told.
@@ -134,4 +149,10 @@ fn twice_settled(alloc: Global, e: &mut Expr, names: &mut Names) -> Result<Strin
 pub fn settle_twice(alloc: Global, text: &str, names: &mut Names) -> Result<String, Stop> {
     let mut e = read(alloc, text, names, &mut begin())?;
     Ok(twice_settled(alloc, &mut e, names)?)
+}
+
+/// `settle-pattern`: a pattern as its alternatives when it is settled.
+pub fn settle_in_pattern(alloc: Global, text: &str, names: &mut Names) -> Result<String, Stop> {
+    let mut pattern = read_pattern(alloc, text, names, &mut begin())?;
+    Ok(settled_pattern(alloc, &mut pattern, names)?)
 }

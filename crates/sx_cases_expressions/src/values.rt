@@ -4,10 +4,11 @@ use crate::stops::Stop;
 use crate::trees::atom;
 use sqlite_items::Items;
 use std::alloc::{AllocError, Global};
-use sx_atoms::{Args, Atom, Atoms, Dec, add, cast, castable, compare, div, idiv, mul, rem, sub};
+use sx_atoms::answers::single;
+use sx_atoms::{Args, Atom, Atoms, Dec, calculate, cast, castable, compare, signed};
 use sx_fn_seq::{call_seq, is_answerable};
 use sx_fn_text::{call_text, signature_text};
-use sx_kinds::{ArithOp, Expr, ExprForm, Function};
+use sx_kinds::{Expr, ExprForm, Function};
 use sx_names::Names;
 
 // The greatest integer that is a decimal.
@@ -40,12 +41,6 @@ fn spelled(alloc: Global, written: &str) -> Result<String, AllocError> {
     Ok(out)
 }
 
-fn single(alloc: Global, atom: Atom) -> Result<Atoms, AllocError> {
-    let mut atoms = Items::new(alloc);
-    atoms.push(atom)?;
-    Ok(atoms)
-}
-
 // A number at the end of a range, by the name of its variable.
 fn end_of_range(name: &str) -> Result<Atom, Stop> {
     match name {
@@ -76,19 +71,6 @@ fn operand(parts: &Args, at: usize) -> Result<&Atom, Stop> {
     }
 }
 
-fn arithmetic(op: ArithOp, parts: &Args) -> Result<Atom, Stop> {
-    let (a, b) = (operand(parts, 0)?, operand(parts, 1)?);
-    let answer = match op {
-        ArithOp::Add => add(a, b),
-        ArithOp::Sub => sub(a, b),
-        ArithOp::Mul => mul(a, b),
-        ArithOp::Div => div(a, b),
-        ArithOp::Idiv => idiv(a, b),
-        ArithOp::Mod => rem(a, b),
-    };
-    Ok(answer?)
-}
-
 // Atoms one behind another.
 fn together(alloc: Global, parts: &Args) -> Result<Atoms, AllocError> {
     let mut all = Items::new(alloc);
@@ -114,8 +96,8 @@ fn called(alloc: Global, function: Function, args: &Args) -> Result<Atoms, Stop>
 fn operated(alloc: Global, form: &ExprForm, parts: &Args) -> Result<Atom, Stop> {
     match form {
         ExprForm::Literal(atom) => Ok(Atom::copy(alloc, atom)?),
-        ExprForm::Unary { minus: true } => Ok(sub(&Atom::Int(0), operand(parts, 0)?)?),
-        ExprForm::Arith(op) => arithmetic(*op, parts),
+        ExprForm::Unary { minus } => Ok(signed(*minus, operand(parts, 0)?)?),
+        ExprForm::Arith(op) => Ok(calculate(*op, operand(parts, 0)?, operand(parts, 1)?)?),
         ExprForm::Compare { op, general } => {
             let holds = compare(*op, *general, operand(parts, 0)?, operand(parts, 1)?)?;
             Ok(Atom::Bool(holds))
