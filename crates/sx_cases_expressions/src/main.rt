@@ -18,58 +18,48 @@ use std::io;
 use stops::{Stop, told};
 use sx_names::Names;
 
-fn of_readings(
-    alloc: Global,
-    word: &str,
-    text: &str,
-    names: &mut Names,
-) -> Option<Result<String, Stop>> {
+fn of_value_word(alloc: Global, word: &str, text: &str, names: &mut Names) -> Result<String, Stop> {
     match word {
-        "tokens" => Some(readings::tokens_of(alloc, text)),
-        "read" => Some(readings::expression(alloc, Shown::Tree, text, names)),
-        "number" => Some(readings::expression(alloc, Shown::Numbers, text, names)),
-        "copy" => Some(readings::expression(alloc, Shown::Copy, text, names)),
-        "pattern" => Some(readings::pattern(alloc, Shown::Tree, text, names)),
-        "number-pattern" => Some(readings::pattern(alloc, Shown::Numbers, text, names)),
-        "template" => Some(readings::template(alloc, Shown::Tree, text, names)),
-        "number-template" => Some(readings::template(alloc, Shown::Numbers, text, names)),
-        "names" => Some(readings::names_of(alloc, text, names)),
-        "type" => Some(types::type_in_document(alloc, text, names)),
-        "type-in-copy" => Some(types::type_in_copy(alloc, text, names)),
-        "settle" => Some(types::settle_twice(alloc, text, names)),
-        "settle-pattern" => Some(types::settle_in_pattern(alloc, text, names)),
-        _ => None,
+        "value" => of_value(alloc, Asked::Value, text, names),
+        "print" => of_value(alloc, Asked::Print, text, names),
+        "nearest" => of_value(alloc, Asked::Nearest, text, names),
+        "argument-text" => of_value(alloc, Asked::Text, text, names),
+        "argument-number" => of_value(alloc, Asked::Number, text, names),
+        "cast" => arguments::cast_of(alloc, text, names),
+        "positions" => arguments::positions_of(alloc, text, names),
+        "signature" => arguments::signature_of(alloc, text, names),
+        _ => Err(Stop::Unfit),
     }
 }
 
-fn of_values(
-    alloc: Global,
-    word: &str,
-    text: &str,
-    names: &mut Names,
-) -> Option<Result<String, Stop>> {
+fn of_type_word(alloc: Global, word: &str, text: &str, names: &mut Names) -> Result<String, Stop> {
     match word {
-        "value" => Some(of_value(alloc, Asked::Value, text, names)),
-        "cast" => Some(arguments::cast_of(alloc, text, names)),
-        "print" => Some(of_value(alloc, Asked::Print, text, names)),
-        "nearest" => Some(of_value(alloc, Asked::Nearest, text, names)),
-        "argument-text" => Some(of_value(alloc, Asked::Text, text, names)),
-        "argument-number" => Some(of_value(alloc, Asked::Number, text, names)),
-        "positions" => Some(arguments::positions_of(alloc, text, names)),
-        "signature" => Some(arguments::signature_of(alloc, text, names)),
-        _ => None,
+        "type" => types::type_in_document(alloc, text, names),
+        "type-in-copy" => types::type_in_copy(alloc, text, names),
+        "settle" => types::settle_twice(alloc, text, names),
+        "settle-pattern" => types::settle_in_pattern(alloc, text, names),
+        _ => of_value_word(alloc, word, text, names),
+    }
+}
+
+fn of_word(alloc: Global, word: &str, text: &str, names: &mut Names) -> Result<String, Stop> {
+    match word {
+        "tokens" => readings::tokens_of(alloc, text),
+        "read" => readings::expression(alloc, Shown::Tree, text, names),
+        "number" => readings::expression(alloc, Shown::Numbers, text, names),
+        "copy" => readings::expression(alloc, Shown::Copy, text, names),
+        "pattern" => readings::pattern(alloc, Shown::Tree, text, names),
+        "number-pattern" => readings::pattern(alloc, Shown::Numbers, text, names),
+        "template" => readings::template(alloc, Shown::Tree, text, names),
+        "number-template" => readings::template(alloc, Shown::Numbers, text, names),
+        "names" => readings::names_of(alloc, text, names),
+        _ => of_type_word(alloc, word, text, names),
     }
 }
 
 fn answer(alloc: Global, word: &str, text: &str) -> Result<String, AllocError> {
     let mut names = sx_names::new(alloc);
-    if let Some(found) = of_readings(alloc, word, text, &mut names) {
-        return told(alloc, found);
-    }
-    match of_values(alloc, word, text, &mut names) {
-        Some(found) => told(alloc, found),
-        None => String::from_str(alloc, "no such word"),
-    }
+    told(alloc, of_word(alloc, word, text, &mut names))
 }
 
 fn row(alloc: Global, line: &str) -> Result<String, AllocError> {
