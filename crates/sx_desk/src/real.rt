@@ -48,7 +48,8 @@ impl<'a, R: System> Desk for RealDesk<'a, R> {
 
     fn open_file(&mut self, name: &str) -> Result<u32, Failed>
         requires { length (⟦<RealDesk<'a, R> as Desk>⟧.seen self.old).opened < 2 ^ 32 - 1 }
-        ensures desk { Opens name.now (⟦<RealDesk<'a, R> as Desk>⟧.seen self.old) (⟦<RealDesk<'a, R> as Desk>⟧.seen self.new) result }
+        ensures desk { Opens name.now (⟦<RealDesk<'a, R> as Desk>⟧.seen self.old)
+            (⟦<RealDesk<'a, R> as Desk>⟧.seen self.new) result }
         ensures answer { OpensOne (R.opens self.old.rt.now name.now) self.old.files.items self.new.files.items result }
     {
         let number = self.files.len();
@@ -66,7 +67,8 @@ impl<'a, R: System> Desk for RealDesk<'a, R> {
     fn read(&mut self, file: u32, buf: &mut [u8]) -> Result<usize, Failed>
         requires room { 0 < length buf.old }
         requires given { file < length (⟦<RealDesk<'a, R> as Desk>⟧.seen self.old).opened }
-        ensures desk { Reads file (⟦<RealDesk<'a, R> as Desk>⟧.seen self.old) (⟦<RealDesk<'a, R> as Desk>⟧.seen self.new) buf.new result }
+        ensures desk { Reads file (⟦<RealDesk<'a, R> as Desk>⟧.seen self.old)
+            (⟦<RealDesk<'a, R> as Desk>⟧.seen self.new) buf.new result }
         ensures answer { ReadsOne R.reads file self.old.files.items self.new.files.items buf.new result }
     {
         match R::read(&mut self.files[file as usize], buf) {
@@ -80,7 +82,8 @@ impl<'a, R: System> Desk for RealDesk<'a, R> {
 
     fn write(&mut self, out: Out, piece: &[u8]) -> Result<usize, Failed>
         requires { 0 < length piece.now }
-        ensures desk { Writes out piece.now (⟦<RealDesk<'a, R> as Desk>⟧.seen self.old) (⟦<RealDesk<'a, R> as Desk>⟧.seen self.new) result }
+        ensures desk { Writes out piece.now (⟦<RealDesk<'a, R> as Desk>⟧.seen self.old)
+            (⟦<RealDesk<'a, R> as Desk>⟧.seen self.new) result }
         ensures files { self.new.files.items ≡ self.old.files.items }
         ensures answer { WritesOne (R.writes self.old.rt.now) (R.prints self.old.rt.now) out piece.now result }
     {

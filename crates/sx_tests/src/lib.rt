@@ -1,4 +1,4 @@
-//! Tests of what no clause says: what the system does to the real desk, and that an error of its calls is none of the program's answers.
+//! Tests of what no clause says: what the system gives the real desk, and that none of its errors is lost.
 #![tactic(auto)]
 
 #[cfg(test)]
