@@ -80,8 +80,3 @@ roaming_of names events bytes new sheet line are reads found = inr (
     culprit_is = found;
   },
 )
-
--- what holds whatever the answer is holds after a success
-pub after_success : {A : Type 0} (r : Result Sheet Status) → A → OnOk r A
-after_success (Ok sheet) a = a
-after_success (Err s) a = tt

@@ -49,8 +49,7 @@ pub fn load<D: Desk>(
     desk: &mut D,
 ) -> Result<Sheet, Status>
     requires { length (D.seen desk.old).opened < 2 ^ 31 }
-    ensures loads { IsDistinct names.old → Loads name.now names.new (D.seen desk.old) (D.seen desk.new) result }
-    ensures distinct { OnOk result (IsDistinct names.new) }
+    ensures loads { Loads name.now names.new (D.seen desk.old) (D.seen desk.new) result }
     ensures quiet { IsQuiet (D.seen desk.old) (D.seen desk.new) }
     ensures opened { length (D.seen desk.new).opened ≤ length (D.seen desk.old).opened + 1 }
 {

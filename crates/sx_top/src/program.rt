@@ -4,7 +4,6 @@ ghost use Rattle.sx_desk.specs.declared.desk.Out.TheVariants as out;
 ghost use Rattle.sx_limits.specs.Limits.{stated};
 ghost use Rattle.sx_kinds.specs.declared.sheets.OnNoMatch.TheVariants as unmatched;
 ghost use Rattle.sx_machine.specs.Meaning.{IsReady, thin_mode};
-ghost use Rattle.sx_names.specs.Numbering.{IsDistinct};
 ghost use Rattle.sx_reading.specs.Answers.{diagnostic_of};
 ghost use Rattle.sx_reading.specs.Frame.{Frame};
 ghost use Rattle.sx_reading.specs.Transforming.{Transforms};
@@ -86,7 +85,7 @@ fn run_on<D: Desk>(
     desk: &mut D,
 ) -> Status
     requires { length (D.seen desk.old).opened ≤ 2 ^ 31 }
-    ensures headline { IsReady sheet.now names.old → IsDistinct names.old
+    ensures headline { IsReady sheet.now names.old
         → Headline (run_written sheet.now names.old stated) (run_outcome sheet.now names.old stated) name.now (D.seen desk.old) (D.seen desk.new) result }
     ensures quiet { IsQuiet (D.seen desk.old) (D.seen desk.new) }
 {

@@ -158,10 +158,11 @@ pub(crate) fn read_stylesheet<D: Desk>(
 ) -> Result<LinedEvents, Status>
     requires given { file < length (D.seen desk.old).opened }
     requires untouched { IsTrue (D.seen desk.old).told → (D.seen desk.old).taken file ≡ 0 }
-    ensures reads { IsDistinct names.old → ReadsSheet file (D.seen desk.old) (D.seen desk.new) names.new result }
+    ensures reads { ReadsSheet file (D.seen desk.old) (D.seen desk.new) names.new result }
     ensures frame { Frame file out.Result (D.seen desk.old) (D.seen desk.new) }
     ensures kept { KeepsPlaces names.old names.new }
 {
+    names.each_once();
     let own = mem::replace(names, sx_names::new(alloc));
     let mut reader = StylesheetReader::new(alloc, own);
     let status = transfer(alloc, file, desk, &mut reader);

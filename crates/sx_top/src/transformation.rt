@@ -2,7 +2,7 @@
 ghost use Rattle.std.specs.Prelude.{◌≡◌, ◌<◌, ◌≤◌, ◌^◌, IsTrue, length};
 ghost use Rattle.sx_desk.specs.declared.desk.Out.TheVariants as out;
 ghost use Rattle.sx_machine.specs.Meaning.{IsReady};
-ghost use Rattle.sx_names.specs.Numbering.{IsDistinct, KeepsPlaces};
+ghost use Rattle.sx_names.specs.Numbering.{KeepsPlaces};
 ghost use Rattle.sx_reading.specs.Frame.{Frame};
 ghost use Rattle.sx_reading.specs.Transforming.{Transforms};
 ghost use Rattle.sx_top.specs.Run.{run_written, run_outcome};
@@ -34,11 +34,12 @@ pub fn transform<D: Desk>(
     requires bytes { limits.now.bytes ≤ 2 ^ 40 }
     requires given { file < length (D.seen desk.old).opened }
     requires untouched { IsTrue (D.seen desk.old).told → (D.seen desk.old).taken file ≡ 0 }
-    ensures runs { IsReady sheet.now names.old → IsDistinct names.old
+    ensures runs { IsReady sheet.now names.old
         → Transforms (run_written sheet.now names.old limits.now) (run_outcome sheet.now names.old limits.now) file (D.seen desk.old) (D.seen desk.new) result }
     ensures kept { KeepsPlaces names.old names.new }
     ensures frame { Frame file out.Result (D.seen desk.old) (D.seen desk.new) }
 {
+    names.each_once();
     match Session::start(alloc, sheet, limits.invocations, names) {
         Ok(session) => {
             let own = mem::replace(names, sx_names::new(alloc));

@@ -8,13 +8,13 @@ use Rattle.sx_top.proofs.Loadings.{quiet_of}
 use Rattle.sx_top.proofs.program.run_on.Goals as goal
 
 pub returns-in-Ok-clause-headline : goal.returns-in-Ok-clause-headline
-returns-in-Ok-clause-headline g c = λ ready distinct.
+returns-in-Ok-clause-headline g c = λ ready.
     let sheet = c.args.sheet.now in
     let names = c.args.names.now in
     run_of (run_written sheet names stated) (run_outcome sheet names stated) c.args.name.now
     (g.D.Desk.seen c.args.desk.now) (g.D.Desk.seen c.open_file.new.self) (g.D.Desk.seen c.transform.new.desk) c.in-Ok.file c.transform.result c.in-Ok.ensures
     (subst (λ (l : Limits). Transforms (run_written sheet names l) (run_outcome sheet names l) c.in-Ok.file (g.D.Desk.seen c.open_file.new.self) (g.D.Desk.seen c.transform.new.desk) c.transform.result) c.stated.ensures
-    (c.transform.ensures.runs ready distinct))
+    (c.transform.ensures.runs ready))
 
 pub returns-in-Ok-clause-quiet : goal.returns-in-Ok-clause-quiet
 returns-in-Ok-clause-quiet g c =

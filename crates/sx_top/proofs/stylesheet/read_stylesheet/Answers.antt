@@ -8,7 +8,8 @@ use Rattle.sx_top.proofs.Stylesheets.{events_left}
 use Rattle.sx_top.proofs.stylesheet.read_stylesheet.Goals as goal
 
 pub returns-in-Ok-clause-reads : goal.returns-in-Ok-clause-reads
-returns-in-Ok-clause-reads g c = λ distinct.
+returns-in-Ok-clause-reads g c =
+    let distinct = c.each_once.ensures in
     let stands : StylesheetStands c.new-reader.result [] false [] = c.new-reader.ensures.stands (subst (λ (n : NameTable). IsDistinct n) (sym c.replace-own.ensures.value) distinct) in
     let meant : Meant c.new-reader.result nothing_written sheet_outcome [] false [] = record { writes = refl; ends_at = refl; stands = stands } in
     let left = c.in-Ok.ensures.left nothing_written sheet_outcome meant (λ q. cc) in
@@ -28,7 +29,8 @@ returns-in-Ok-clause-kept g c =
     kept_between c.args.names.now c.new-reader.result.names c.transfer-status.new.consumer.names c.swap.new.x (sym (c.new-reader.ensures.names ∙ c.replace-own.ensures.value)) c.swap.ensures.x_after c.transfer-status.ensures.keeps
 
 pub returns-in_default-clause-reads : goal.returns-in_default-clause-reads
-returns-in_default-clause-reads g c = λ distinct.
+returns-in_default-clause-reads g c =
+    let distinct = c.each_once.ensures in
     let stands : StylesheetStands c.new-reader.result [] false [] = c.new-reader.ensures.stands (subst (λ (n : NameTable). IsDistinct n) (sym c.replace-own.ensures.value) distinct) in
     let meant : Meant c.new-reader.result nothing_written sheet_outcome [] false [] = record { writes = refl; ends_at = refl; stands = stands } in
     record {

@@ -6,7 +6,8 @@ use Rattle.sx_top.proofs.Runners.{own_stands, kept_between}
 use Rattle.sx_top.proofs.transformation.transform.Goals as goal
 
 pub returns-in-Ok-clause-runs : goal.returns-in-Ok-clause-runs
-returns-in-Ok-clause-runs g c = λ ready distinct.
+returns-in-Ok-clause-runs g c = λ ready.
+    let distinct = c.each_once.ensures in
     let sheet = c.args.sheet.now in
     let names = c.args.names.now in
     let limits = c.args.limits.now in
@@ -19,5 +20,5 @@ returns-in-Ok-clause-kept g c =
     kept_between c.args.names.now c.new-runner.result.names c.transfer-status.new.consumer.names c.swap.new.x (sym (c.new-runner.ensures.names ∙ c.replace-own.ensures.value)) c.swap.ensures.x_after c.transfer-status.ensures.keeps
 
 pub returns-in-Err-clause-runs : goal.returns-in-Err-clause-runs
-returns-in-Err-clause-runs g c = λ ready distinct.
+returns-in-Err-clause-runs g c = λ ready.
     no_memory (run_written c.args.sheet.now c.args.names.now c.args.limits.now) (run_outcome c.args.sheet.now c.args.names.now c.args.limits.now) c.args.file (g.D.Desk.seen c.args.desk.now) c.requires.untouched
