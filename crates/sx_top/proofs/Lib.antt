@@ -9,3 +9,5 @@ pub mod Accepting
 pub mod Loadings
 pub mod Programs
 pub mod Openings
+pub mod Depths
+pub mod Invocations

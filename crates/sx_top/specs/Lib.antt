@@ -6,3 +6,4 @@ pub mod Loading
 pub mod Copy
 pub mod Words
 pub mod Commands
+pub mod Depth

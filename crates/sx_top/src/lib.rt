@@ -10,7 +10,7 @@ mod stylesheet;
 mod transformation;
 mod words;
 
-pub use laws::growth;
+pub use laws::{copy_is_never_static, enough_invocations, growth};
 pub use loading::load;
 pub use program::top;
 pub use transformation::transform;
