@@ -9,7 +9,7 @@ use std::io;
 use std::io::{ErrorKind, Read, Seek, SeekFrom, Write};
 use std::rt::Files;
 
-// How it behaves: the most bytes that one call moves, and the numbers from 1 of the calls that fail, of which 0 is none.
+/// How it behaves: the most bytes that one call moves, and the numbers from 1 of the calls that fail, of which 0 is none.
 #[derive(Clone, Copy)]
 pub struct Conduct {
     pub read_piece: usize,
@@ -19,7 +19,7 @@ pub struct Conduct {
     pub prints: bool,
 }
 
-// All calls succeed, and move what there is.
+/// All calls succeed, and move what there is.
 pub const WELL: Conduct = Conduct {
     read_piece: usize::MAX,
     write_piece: usize::MAX,
@@ -59,6 +59,7 @@ fn broken<T>() -> io::Result<T>
 }
 
 impl FakeRuntime {
+    /// A runtime with this file under every name, to which nothing was written. It errs only for want of memory.
     pub fn new(alloc: Global, file: &[u8], conduct: Conduct) -> Result<FakeRuntime, AllocError> {
         Ok(FakeRuntime {
             alloc,
@@ -70,12 +71,12 @@ impl FakeRuntime {
         })
     }
 
-    // Whether these bytes were written to the standard output.
+    /// Whether these bytes were written to the standard output.
     pub fn has_written(&self, bytes: &[u8]) -> bool {
         holds(&self.written, bytes)
     }
 
-    // Whether the front of these bytes was written to the standard output, and nothing else.
+    /// Whether the front of these bytes was written to the standard output, and nothing else.
     pub fn has_written_front(&self, bytes: &[u8]) -> bool {
         match self.written.try_borrow() {
             Ok(written) => bytes.starts_with(written.as_slice()),
@@ -83,7 +84,7 @@ impl FakeRuntime {
         }
     }
 
-    // Whether these bytes were written to the standard error.
+    /// Whether these bytes were written to the standard error.
     pub fn has_printed(&self, bytes: &[u8]) -> bool {
         holds(&self.printed, bytes)
     }
