@@ -19,8 +19,8 @@ use Rattle.sx_parse.specs.declared.roles.Role.TheVariants as role
 use Rattle.sx_parse.specs.Grammar.{level, left_level, casting_level, names_axis, takes_name, introduces, returns, begins_step, allows, Tree, literal, dot, parent, root, step, cast, Bindings}
 use Rattle.sx_parse.specs.Machine.{Given, begun, behind, Stack, bottom, pending, more, signed, paren, arguments, predicate, condition, branch, binding, body, State, want, fresh, slash, named, dollar, axis, kind, kind_name, have, comma_bound, binder_dollar, binder_name, casting, casting_as, conditioned, in_pattern, floor, bound, given_binder, reaches, Reached, reach, when, begin_mark, begin, close_empty, begin_fresh, close_under, close_bracket, else_under, comma_under, return_under, operate_on, cast_on, question, follow_operator, follow_mark, follow_name, follow, open_kind, open_plain, open_name, name_axis, name_binder, follow_named, axis_test, in_kind, end_kind, variable_name, bound_dollar, bound_name, cast_as, cast_type, then_word, follow_slash, read}
 use Rattle.sx_parse.specs.Reading.{turns}
-use Rattle.sx_parse.specs.Roles.{operand_count, roles, binding_roles, prefix_roles, inner_role}
-use Rattle.sx_parse.specs.Standing.{depth, given_roles, stack_roles, state_roles}
+use Rattle.sx_parse.specs.Roles.{operand_count, roles, binding_roles, bound_depth, prefix_roles, inner_role}
+use Rattle.sx_parse.specs.Standing.{depth, given_depth, given_roles, stack_roles, state_roles}
 use Rattle.sx_parse.proofs.Joining.{reached_roles, reach_roles}
 
 -- ---- what is added
@@ -125,12 +125,12 @@ else_adds t k s = tt
 
 -- the value of a variable behind what introduced it
 bound_roles : (n : ℕ) (g : Given) (w : Word) (r : ℕ) (l : Lexeme) (t : Tree) →
-    binding_roles n (bound g w r l t) ≡ (given_roles n g ++ role.Name ∷ role.Plain ∷ []) ++ roles (suc n) t
+    binding_roles n (bound g w r l t) ≡ (given_roles n g ++ role.Name ∷ role.Plain ∷ []) ++ roles (given_depth n g) t
 bound_roles n (begun k p) w r l t = refl
 bound_roles n (behind bs) w r l t = simp append_assoc
 
 bound_stands : (g : Given) (w : Word) (r : ℕ) (l : Lexeme) (t : Tree) (s : Stack) →
-    stack_roles s ++ binding_roles (depth s) (bound g w r l t) ≡ stack_roles (binding g w r l s) ++ roles (suc (depth s)) t
+    stack_roles s ++ binding_roles (depth s) (bound g w r l t) ≡ stack_roles (binding g w r l s) ++ roles (given_depth (depth s) g) t
 bound_stands g w r l t s = ap (λ (rs : List Role). stack_roles s ++ rs) (bound_roles (depth s) g w r l t) ∙ simp append_assoc
 
 comma_more_adds : (b : Bool) (t : Tree) (s : Stack) → Adds (stack_roles s ++ roles (depth s) t) (when b (want (more t s)))
@@ -220,7 +220,7 @@ variable_adds s (lexeme.Name w p) = plain _ _ role.Name refl (simp append_assoc)
 variable_adds s l = tt
 
 bound_dollar_adds : (bs : Bindings) (s : Stack) (l : Lexeme) → Adds (state_roles (comma_bound bs s)) (bound_dollar bs s l)
-bound_dollar_adds bs s (lexeme.Mark mark.Dollar) = plain _ _ role.Plain refl (simp append_assoc)
+bound_dollar_adds bs s (lexeme.Mark mark.Dollar) = plain _ _ (role.Opens (suc (bound_depth (depth s) bs))) refl (simp append_assoc)
 bound_dollar_adds bs s l = tt
 
 bound_name_adds : (g : Given) (s : Stack) (l : Lexeme) → Adds (state_roles (binder_dollar g s)) (bound_name g s l)

@@ -20,7 +20,7 @@ use Rattle.sx_parse.specs.declared.frames.Mode.{Mode}
 use Rattle.sx_parse.specs.declared.frames.Mode.TheVariants as mode
 use Rattle.sx_parse.specs.Grammar.{level, left_level, casting_level, returns, allows, Tree, root, cast, first, also, binder_of}
 use Rattle.sx_parse.specs.Nodes.{nodes, takes_more, value_nodes}
-use Rattle.sx_parse.specs.Roles.{roles, binding_roles, operand_count}
+use Rattle.sx_parse.specs.Roles.{roles, binding_roles, bound_depth, operand_count}
 use Rattle.sx_parse.specs.Standing.{depth, stack_roles, stack_nodes}
 use Rattle.sx_parse.specs.Machine.{begun, behind, Stack, pending, more, paren, arguments, predicate, condition, branch, binding, body, State, want, casting, in_pattern, floor, reaches, Reached, reach, when, close_under, close, close_bracket, else_under, comma_under, return_under, operate_on, cast_on, question, follow_operator, follow_mark, follow_name, follow}
 use Rattle.sx_parse.specs.Flat as flat
@@ -100,16 +100,16 @@ raw_is : (fs : List Frame) (ns ns' : List Node) (rs rs' : List Role) (d : ℕ) (
     let before : Outcome = Ok (raw fs ns rs d p m) in before ≡ Ok (raw fs ns' rs' d p m)
 raw_is fs ns ns' rs rs' d p m e f = cc
 
-also_roles : (xs ys zs : List Role) →
-    xs ++ (ys ++ role.Plain ∷ role.Plain ∷ []) ++ role.Name ∷ role.Plain ∷ [] ++ zs ++ role.Plain ∷ []
-    ≡ xs ++ (ys ++ role.Plain ∷ role.Plain ∷ role.Name ∷ role.Plain ∷ zs) ++ role.Plain ∷ []
-also_roles xs ys zs = simp append_assoc
+also_roles : (n : ℕ) (xs ys zs : List Role) →
+    xs ++ (ys ++ role.Plain ∷ role.Opens n ∷ []) ++ role.Name ∷ role.Plain ∷ [] ++ zs ++ role.Plain ∷ []
+    ≡ xs ++ (ys ++ role.Plain ∷ role.Opens n ∷ role.Name ∷ role.Plain ∷ zs) ++ role.Plain ∷ []
+also_roles n xs ys zs = simp append_assoc
 
 comma_is : (t : Tree) (s : Stack) (m : Mode) → flat.comma_under (frames s) (holding t s m) (operand_count t) ≡ told (read_roles t s) (comma_under t s)
 comma_is t (binding (begun k p) w r l s) m = simp (append_assoc, append-nil)
 comma_is t (binding (behind bs) w r l s) m =
     raw_is (body_frames (also bs w r l t) ++ frames s) _ _ _ _ _ _ _ (append_assoc (stack_nodes s) (value_nodes bs) (nodes t))
-    (also_roles (stack_roles s) (binding_roles (depth s) bs) (roles (suc (depth s)) t))
+    (also_roles (suc (bound_depth (depth s) bs)) (stack_roles s) (binding_roles (depth s) bs) (roles (suc (bound_depth (depth s) bs)) t))
 comma_is t (body (first k p w r i a) l s) m = more_is t (body (first k p w r i a) l s) m
 comma_is t (body (also bs w r i a) l s) m = more_is t (body (also bs w r i a) l s) m
 comma_is t s m = more_is t s m
@@ -120,7 +120,7 @@ return_is t l (binding (begun k p) w r i s) m =
 return_is t l (binding (behind bs) w r i s) m =
     if_is _ (returns (binder_of bs) l) _ _ (want (body (also bs w r i t) l s)) refl
     (raw_is (body_frames (also bs w r i t) ++ frames s) _ _ _ _ _ _ _ (append_assoc (stack_nodes s) (value_nodes bs) (nodes t))
-    (also_roles (stack_roles s) (binding_roles (depth s) bs) (roles (suc (depth s)) t)))
+    (also_roles (suc (bound_depth (depth s) bs)) (stack_roles s) (binding_roles (depth s) bs) (roles (suc (bound_depth (depth s) bs)) t)))
 return_is t l (body (first k p w r i a) j s) m = refl
 return_is t l (body (also bs w r i a) j s) m = refl
 return_is t l s m = refl

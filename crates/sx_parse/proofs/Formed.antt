@@ -45,7 +45,7 @@ use Rattle.sx_parse.specs.Parsed.{AreFormedParts, AreParts, IsSaid}
 use Rattle.sx_parse.specs.Turning.{IsReadTo}
 use Rattle.sx_parse.specs.Understanding.{IsUnderstood}
 use Rattle.sx_parse.specs.Templates.{Piece, fixed, inner}
-use Rattle.sx_parse.specs.Roles.{binding_roles, operand_count, question_roles, roles}
+use Rattle.sx_parse.specs.Roles.{binding_roles, bound_depth, operand_count, question_roles, roles}
 use Rattle.sx_parse.specs.Says.{or_true, Meaning, made, deepened, with_part, joined_by, begun_by, cast_by, bound_by, filtered, whole, operands, bound_in, says, number_at, type_at, root_of, call_of, called_function, any_type, literal_atom, step_axis, node_test_of, alternatives}
 use Rattle.sx_parse.proofs.Parallel.{parallel}
 use Rattle.sx_parse.proofs.Refusals.{as_many as as_many_lexemes}
@@ -270,17 +270,17 @@ module _ (takes : Function → ℕ → Bool) where
           (made_formed m kind.If form.If (says m c ∷ says m t ∷ says m e ∷ []) refl
           (both (is_formed (says m c)) (all_so (map is_formed (says m t ∷ says m e ∷ []))) test (two_formed (says m t) (says m e) then_part else_part)))
       operands_formed (bind bs l e) n h =
-          let last = role.Plain ∷ roles (suc n) e in
+          let last = role.Plain ∷ roles (bound_depth n bs) e in
           let inner = back (binding_roles n bs) last h in
-          one (bound_in m bs (says m e)) (bound_in_formed bs n (says m e) (front (binding_roles n bs) last h) (operands_formed e (suc n) inner.1).said)
+          one (bound_in m bs (says m e)) (bound_in_formed bs n (says m e) (front (binding_roles n bs) last h) (operands_formed e (bound_depth n bs) inner.1).said)
 
       bound_in_formed : (bs : Bindings) (n : ℕ) (e : Expr) → RolesPass (binding_roles n bs) → IsFormed takes e → IsFormed takes (bound_in m bs e)
       bound_in_formed (first k p w r l a) n e h f = bound_formed m k (number_at m r) (says m a) e (operands_formed a (suc n) h.1.1.1.1).said f
       bound_in_formed (also bs w r l a) n e h f =
-          let last = role.Plain ∷ role.Plain ∷ role.Name ∷ role.Plain ∷ roles (suc n) a in
+          let last = role.Plain ∷ role.Opens (suc (bound_depth n bs)) ∷ role.Name ∷ role.Plain ∷ roles (suc (bound_depth n bs)) a in
           let value = back (binding_roles n bs) last h in
           bound_in_formed bs n (bound_by m (binder_of bs) (number_at m r) (says m a) e) (front (binding_roles n bs) last h)
-          (bound_formed m (binder_of bs) (number_at m r) (says m a) e (operands_formed a (suc n) value.1.1.1.1).said f)
+          (bound_formed m (binder_of bs) (number_at m r) (says m a) e (operands_formed a (suc (bound_depth n bs)) value.1.1.1.1).said f)
 
     -- what a derivation says is formed
     pub says_formed : (t : Tree) → RolesPass (roles 0 t) → IsFormed takes (says m t)

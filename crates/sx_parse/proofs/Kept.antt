@@ -1,5 +1,5 @@
 -- What the code keeps in each state of the machine, and that both agree where an operand has to come.
-use Rattle.std.proofs.Common.{◌≡◌, ℕ, suc, ◌^◌, ◌<◌, ◌≤◌, Bool, true, false, ◌&&◌, not, if◌then◌else◌, nat_le, nat_eq, List, [], ◌∷◌, ◌++◌, length, Option, Some, None, Ok, Err, refl, ap, ◌∙◌, arith, append_assoc, append-nil, length-append}
+use Rattle.std.proofs.Common.{◌≡◌, ℕ, suc, ◌+◌, ◌^◌, ◌<◌, ◌≤◌, Bool, true, false, ◌&&◌, not, if◌then◌else◌, nat_le, nat_eq, List, [], ◌∷◌, ◌++◌, length, Option, Some, None, Ok, Err, refl, ap, ◌∙◌, arith, append_assoc, append-nil, length-append}
 use Rattle.std.proofs.Math.Dec.{eqb-suc-zero}
 use Rattle.sx_atoms.specs.declared.arithmetic.ArithOp.TheVariants as arith_op
 use Rattle.sx_parse.specs.declared.lexemes.Operator.TheVariants as operator
@@ -15,11 +15,11 @@ use Rattle.sx_parse.specs.declared.frames.Frame.{Frame}
 use Rattle.sx_parse.specs.declared.frames.Frame.TheVariants as frame
 use Rattle.sx_parse.specs.declared.frames.Mode.{Mode}
 use Rattle.sx_parse.specs.declared.frames.Mode.TheVariants as mode
-use Rattle.sx_parse.specs.Grammar.{Tree, literal, dot, parent, root, first, also, binder_of}
+use Rattle.sx_parse.specs.Grammar.{Tree, literal, dot, parent, root, Bindings, first, also, binder_of}
 use Rattle.sx_parse.specs.Nodes.{nodes}
-use Rattle.sx_parse.specs.Roles.{roles, binding_roles, prefix_roles, inner_role, operand_count}
-use Rattle.sx_parse.specs.Standing.{depth, stack_roles, stack_nodes, given_roles, given_nodes}
-use Rattle.sx_parse.specs.Machine.{Given, behind, Stack, bottom, pending, more, signed, paren, arguments, predicate, condition, branch, otherwise, binding, body, State, want, fresh, slash, named, dollar, axis, kind, kind_name, have, comma_bound, binder_dollar, binder_name, casting, casting_as, conditioned, in_pattern, floor, given_binder, reaches, when, begin_mark, begin, close_empty, begin_fresh}
+use Rattle.sx_parse.specs.Roles.{roles, binding_roles, bound_depth, prefix_roles, inner_role, operand_count}
+use Rattle.sx_parse.specs.Standing.{depth, given_depth, stack_roles, stack_nodes, given_roles, given_nodes}
+use Rattle.sx_parse.specs.Machine.{Given, begun, behind, Stack, bottom, pending, more, signed, paren, arguments, predicate, condition, branch, otherwise, binding, body, State, want, fresh, slash, named, dollar, axis, kind, kind_name, have, comma_bound, binder_dollar, binder_name, casting, casting_as, conditioned, in_pattern, floor, given_binder, reaches, when, begin_mark, begin, close_empty, begin_fresh}
 use Rattle.sx_parse.specs.Flat as flat
 use Rattle.sx_parse.specs.Flat.{Flat, Outcome, next}
 use Rattle.sx_parse.proofs.Reached.{shape_of, given_frames, is_first, frames, is_pattern, raw, at, holding, Small, next_is, sub_is}
@@ -27,8 +27,8 @@ use Rattle.sx_parse.proofs.Reached.{shape_of, given_frames, is_first, frames, is
 -- ---- what the code keeps in each state
 
 -- the same inside bindings
-abbrev pub bound_at : Given → Stack → List Role → Mode → Flat
-bound_at g s rs m = raw (given_frames g ++ frames s) (stack_nodes s ++ given_nodes g) rs (suc (depth s)) (is_pattern s) m
+abbrev pub bound_at : Given → Stack → List Role → ℕ → Mode → Flat
+bound_at g s rs d m = raw (given_frames g ++ frames s) (stack_nodes s ++ given_nodes g) rs d (is_pattern s) m
 
 abbrev pub kept : State → Flat
 kept (want s) = at s (stack_nodes s) (stack_roles s) mode.Want
@@ -42,10 +42,12 @@ kept (kind_name pre k p w q s) =
     at s (stack_nodes s) (stack_roles s ++ prefix_roles pre ++ role.Plain ∷ role.Opens (suc (depth s)) ∷ inner_role k ∷ [])
     (mode.KindName pre (test.KindOf k p w q))
 kept (have t s) = holding t s (mode.Have (shape_of t) (operand_count t))
-kept (comma_bound bs s) = bound_at (behind bs) s (stack_roles s ++ binding_roles (depth s) bs ++ role.Plain ∷ []) (mode.CommaBound (binder_of bs))
-kept (binder_dollar g s) = bound_at g s (stack_roles s ++ given_roles (depth s) g) (mode.BinderDollar (given_binder g) (is_first g))
+kept (comma_bound bs s) =
+    bound_at (behind bs) s (stack_roles s ++ binding_roles (depth s) bs ++ role.Plain ∷ []) (bound_depth (depth s) bs) (mode.CommaBound (binder_of bs))
+kept (binder_dollar g s) =
+    bound_at g s (stack_roles s ++ given_roles (depth s) g) (given_depth (depth s) g) (mode.BinderDollar (given_binder g) (is_first g))
 kept (binder_name g w r s) =
-    bound_at g s (stack_roles s ++ given_roles (depth s) g ++ role.Name ∷ []) (mode.BinderName (given_binder g) r (is_first g))
+    bound_at g s (stack_roles s ++ given_roles (depth s) g ++ role.Name ∷ []) (given_depth (depth s) g) (mode.BinderName (given_binder g) r (is_first g))
 kept (casting t k p s) = at s (stack_nodes s ++ nodes t) (stack_roles s ++ roles (depth s) t ++ role.Plain ∷ []) (mode.Casting k)
 kept (casting_as t k p q s) =
     at s (stack_nodes s ++ nodes t) (stack_roles s ++ roles (depth s) t ++ role.Plain ∷ role.Plain ∷ []) (mode.CastingAs k)
@@ -112,8 +114,10 @@ in_pattern_is (predicate b s) = open_is (is_pattern s) (depth s)
 in_pattern_is (condition p s) = open_is (is_pattern s) (suc (depth s))
 in_pattern_is (branch p c q s) = open_is (is_pattern s) (depth s)
 in_pattern_is (otherwise p c q t r s) = open_is (is_pattern s) (depth s)
-in_pattern_is (binding g w r l s) = open_is (is_pattern s) (depth s)
-in_pattern_is (body bs l s) = open_is (is_pattern s) (depth s)
+in_pattern_is (binding (begun k p) w r l s) = open_is (is_pattern s) (depth s)
+in_pattern_is (binding (behind bs) w r l s) = open_is (is_pattern s) (bound_depth (depth s) bs)
+in_pattern_is (body (first k p w r i a) l s) = open_is (is_pattern s) (depth s)
+in_pattern_is (body (also bs w r i a) l s) = open_is (is_pattern s) (bound_depth (depth s) bs)
 
 pub floor_is : (s : Stack) → flat.floor (frames s) ≡ floor s
 floor_is (body (first k p w r i a) l s) = refl
@@ -126,6 +130,15 @@ shape_reaches p n t = refl
 
 -- ---- numbers
 
+-- each binding has a token at least
+pub bound_le : (n : ℕ) (bs : Bindings) → bound_depth n bs ≤ n + length (binding_roles n bs)
+bound_le n (first k p w r l a) = omega arith
+bound_le n (also bs w r l a) = let h = bound_le n bs in simp length-append (omega arith)
+
+given_le : (n : ℕ) (g : Given) → given_depth n g ≤ n + length (given_roles n g)
+given_le n (begun k p) = omega arith
+given_le n (behind bs) = let h = bound_le n bs in simp length-append (omega arith)
+
 pub depth_le : (s : Stack) → depth s ≤ length (stack_roles s)
 depth_le (bottom p) = omega arith
 depth_le (pending a l o s) = let h = depth_le s in simp length-append (omega arith)
@@ -137,8 +150,8 @@ depth_le (predicate b s) = let h = depth_le s in simp length-append (omega arith
 depth_le (condition p s) = let h = depth_le s in simp length-append (omega arith)
 depth_le (branch p c q s) = let h = depth_le s in simp length-append (omega arith)
 depth_le (otherwise p c q t r s) = let h = depth_le s in simp length-append (omega arith)
-depth_le (binding g w r l s) = let h = depth_le s in simp length-append (omega arith)
-depth_le (body bs l s) = let h = depth_le s in simp length-append (omega arith)
+depth_le (binding g w r l s) = let h = depth_le s in let i = given_le (depth s) g in simp length-append (omega arith)
+depth_le (body bs l s) = let h = depth_le s in let i = bound_le (depth s) bs in simp length-append (omega arith)
 
 pub small : (s : Stack) (xs : List Role) → Small (length (stack_roles s ++ xs)) → depth s < 2 ^ 32
 small s xs h = let k = depth_le s in let l = simp length-append at h in omega arith

@@ -8,7 +8,7 @@ use Rattle.sx_parse.specs.declared.lexemes.Test.{Test}
 use Rattle.sx_parse.specs.declared.lexemes.Test.TheVariants as test
 use Rattle.sx_parse.specs.declared.roles.Role.{Role}
 use Rattle.sx_parse.specs.Grammar.{Tree, literal, dot, parent, root, variable, step, empty, parens, call, called, filter, comma, prefixed, binary, cast, choice, bind, Bindings, first, also, tokens, binding_tokens, prefix_tokens, test_tokens, question_tokens}
-use Rattle.sx_parse.specs.Roles.{roles, binding_roles, prefix_roles, test_roles, question_roles}
+use Rattle.sx_parse.specs.Roles.{roles, binding_roles, bound_depth, prefix_roles, test_roles, question_roles}
 
 joined : (rs ss : List Role) (ls ms : List Lexeme) → length rs ≡ length ls → length ss ≡ length ms → length (rs ++ ss) ≡ length (ls ++ ms)
 joined rs ss ls ms e f = length-append rs ss ∙ omega (arith, e, f) ∙ sym (length-append ls ms)
@@ -52,8 +52,9 @@ mutual
   parallel (choice p c q t r e) n =
       ap (λ (k : ℕ). suc (suc k))
       (joined _ _ _ _ (joined _ _ _ _ (parallel c (suc (suc n))) (ap (λ (k : ℕ). suc (suc k)) (parallel t (suc n)))) (ap suc (parallel e (suc n))))
-  parallel (bind bs l e) n = joined _ _ _ _ (parallel_bindings bs n) (ap suc (parallel e (suc n)))
+  parallel (bind bs l e) n = joined _ _ _ _ (parallel_bindings bs n) (ap suc (parallel e (bound_depth n bs)))
 
   parallel_bindings : (bs : Bindings) (n : ℕ) → length (binding_roles n bs) ≡ length (binding_tokens bs)
   parallel_bindings (first k p w r l a) n = ap (λ (k : ℕ). suc (suc (suc (suc k)))) (parallel a (suc n))
-  parallel_bindings (also bs w r l a) n = joined _ _ _ _ (parallel_bindings bs n) (ap (λ (k : ℕ). suc (suc (suc (suc k)))) (parallel a (suc n)))
+  parallel_bindings (also bs w r l a) n =
+      joined _ _ _ _ (parallel_bindings bs n) (ap (λ (k : ℕ). suc (suc (suc (suc k)))) (parallel a (suc (bound_depth n bs))))

@@ -13,7 +13,7 @@ use Rattle.sx_parse.specs.declared.frames.Shape.TheVariants as shape
 use Rattle.sx_parse.specs.declared.frames.Mode.{Mode}
 use Rattle.sx_parse.specs.Grammar.{level, prefix_level, Tree, literal, dot, parent, root, variable, step, empty, parens, call, called, filter, comma, prefixed, binary, cast, choice, bind, Bindings, first, also, binder_of}
 use Rattle.sx_parse.specs.Nodes.{nodes, name_nodes, takes_more}
-use Rattle.sx_parse.specs.Roles.{roles, test_roles, prefix_roles, operand_count}
+use Rattle.sx_parse.specs.Roles.{roles, bound_depth, test_roles, prefix_roles, operand_count}
 use Rattle.sx_parse.specs.Standing.{depth, stack_roles, stack_nodes}
 use Rattle.sx_parse.specs.Machine.{Given, begun, behind, Stack, bottom, pending, more, signed, paren, arguments, predicate, condition, branch, otherwise, binding, body, given_binder, Reached, reached, reach}
 use Rattle.sx_parse.specs.Flat as flat
@@ -111,25 +111,29 @@ same fs gs ns ns' rs rs' d d' p m c c' e f g h = cc
 
 -- ---- the frames of bindings
 
-bodies_all : (bs : Bindings) (n : ℕ) (fs gs : List Frame) (ns : List Node) (rs : List Role) (d : ℕ) (p : Bool) (m : Mode) (c : ℕ) → nat_le n 1 ≡ true →
+bodies_all : (bs : Bindings) (n : ℕ) (fs gs : List Frame) (ns : List Node) (rs : List Role) (d b : ℕ) (p : Bool) (m : Mode) (c : ℕ) → nat_le n 1 ≡ true →
+    d ≡ bound_depth b bs →
     flat.reach n (body_frames bs ++ fs) (raw gs ns rs d p m) c
-    ≡ flat.reach n fs (raw fs (ns ++ name_nodes bs) rs (d - 1) p m) 1
-bodies_all (first k i w r l a) n fs gs ns rs d p m c e = rw (e, flat.reach) refl
-bodies_all (also bs w r l a) n fs gs ns rs d p m c e =
-    rw (e, flat.reach) (bodies_all bs n fs (body_frames bs ++ fs) (ns ++ node.Bind (binder_of bs) r ∷ []) rs d p m 1 e ∙ simp append_assoc)
+    ≡ flat.reach n fs (raw fs (ns ++ name_nodes bs) rs b p m) 1
+bodies_all (first k i w r l a) n fs gs ns rs d b p m c e f =
+    let one : d - 1 ≡ b = omega (arith, f) in
+    rw (e, flat.reach) (ap (λ (x : ℕ). flat.reach n fs (raw fs (ns ++ node.Bind k r ∷ []) rs x p m) 1) one)
+bodies_all (also bs w r l a) n fs gs ns rs d b p m c e f =
+    rw (e, flat.reach)
+    (bodies_all bs n fs (body_frames bs ++ fs) (ns ++ node.Bind (binder_of bs) r ∷ []) rs (d - 1) b p m 1 e (omega (arith, f)) ∙ simp append_assoc)
 
 bodies_none : (bs : Bindings) (n : ℕ) (fs : List Frame) (f : Flat) (c : ℕ) → nat_le n 1 ≡ false →
     flat.reach n (body_frames bs ++ fs) f c ≡ joined (under f (body_frames bs ++ fs)) c
 bodies_none (first k i w r l a) n fs f c e = rw (e, flat.reach) refl
 bodies_none (also bs w r l a) n fs f c e = rw (e, flat.reach) refl
 
-body_is : (b : Bool) (bs : Bindings) (n : ℕ) (fs gs : List Frame) (ns : List Node) (rs : List Role) (d : ℕ) (p : Bool) (m : Mode) (c : ℕ) (x y : Reached) →
-    nat_le n 1 ≡ b →
-    flat.reach n fs (raw fs (ns ++ name_nodes bs) rs (d - 1) p m) 1 ≡ joined_of x m →
+body_is : (b : Bool) (bs : Bindings) (n : ℕ) (fs gs : List Frame) (ns : List Node) (rs : List Role) (d i : ℕ) (p : Bool) (m : Mode) (c : ℕ) (x y : Reached) →
+    nat_le n 1 ≡ b → d ≡ bound_depth i bs →
+    flat.reach n fs (raw fs (ns ++ name_nodes bs) rs i p m) 1 ≡ joined_of x m →
     joined (under (raw gs ns rs d p m) (body_frames bs ++ fs)) c ≡ joined_of y m →
     flat.reach n (body_frames bs ++ fs) (raw gs ns rs d p m) c ≡ joined_of (if b then x else y) m
-body_is true bs n fs gs ns rs d p m c x y e f g = bodies_all bs n fs gs ns rs d p m c e ∙ f
-body_is false bs n fs gs ns rs d p m c x y e f g = bodies_none bs n fs _ c e ∙ g
+body_is true bs n fs gs ns rs d i p m c x y e h f g = bodies_all bs n fs gs ns rs d i p m c e h ∙ f
+body_is false bs n fs gs ns rs d i p m c x y e h f g = bodies_none bs n fs _ c e ∙ g
 
 -- ---- no more operands than tokens
 
@@ -195,6 +199,6 @@ reach_is n t (otherwise p i q u r s) gs ns rs d c m e f g h b =
     (same (frames (otherwise p i q u r s)) gs ns _ rs _ d _ _ m c _ e f g h)
 reach_is n t (binding i w r l s) gs ns rs d c m e f g h b = same (frames (binding i w r l s)) gs ns _ rs _ d _ _ m c _ e f g h
 reach_is n t (body bs l s) gs ns rs d c m e f g h b =
-    body_is (nat_le n 1) bs n (frames s) gs ns rs d (is_pattern s) m c (reach n (bind bs l t) s) (reached t (body bs l s)) refl
-    (reach_is n (bind bs l t) s (frames s) (ns ++ name_nodes bs) rs (d - 1) 1 m (rw e (simp append_assoc)) (f ∙ simp append_assoc) (omega arith) refl b)
+    body_is (nat_le n 1) bs n (frames s) gs ns rs d (depth s) (is_pattern s) m c (reach n (bind bs l t) s) (reached t (body bs l s)) refl g
+    (reach_is n (bind bs l t) s (frames s) (ns ++ name_nodes bs) rs (depth s) 1 m (rw e (simp append_assoc)) (f ∙ simp append_assoc) refl refl b)
     (same (frames (body bs l s)) gs ns _ rs _ d _ _ m c _ e f g h)

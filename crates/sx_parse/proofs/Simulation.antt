@@ -20,13 +20,13 @@ use Rattle.sx_parse.specs.declared.frames.Shape.TheVariants as shape
 use Rattle.sx_parse.specs.declared.frames.Mode.{Mode}
 use Rattle.sx_parse.specs.declared.frames.Mode.TheVariants as mode
 use Rattle.sx_parse.specs.Grammar.{names_axis, takes_name, introduces, begins_step, Tree, root, step, Bindings, binder_of}
-use Rattle.sx_parse.specs.Roles.{prefix_roles, operand_count}
+use Rattle.sx_parse.specs.Roles.{bound_depth, prefix_roles, operand_count}
 use Rattle.sx_parse.specs.Standing.{depth, stack_roles, stack_nodes, state_roles}
 use Rattle.sx_parse.specs.Machine.{Given, begun, Stack, signed, arguments, condition, binding, State, want, fresh, slash, named, dollar, axis, kind, kind_name, have, comma_bound, binder_dollar, binder_name, casting, casting_as, conditioned, in_pattern, floor, given_binder, reaches, when, follow, open_kind, open_plain, open_name, name_axis, name_binder, follow_named, axis_test, in_kind, end_kind, variable_name, bound_dollar, bound_name, cast_as, cast_type, then_word, follow_slash, read}
 use Rattle.sx_parse.specs.Flat as flat
 use Rattle.sx_parse.specs.Flat.{Flat}
 use Rattle.sx_parse.proofs.Reached.{shape_of, is_first, frames, is_pattern, at, Small, next_is}
-use Rattle.sx_parse.proofs.Kept.{kept, told, if_is, unless_is, cond_is, either_is, in_pattern_is, floor_is, small, depth_le, begin_is, begin_fresh_is}
+use Rattle.sx_parse.proofs.Kept.{bound_le, kept, told, if_is, unless_is, cond_is, either_is, in_pattern_is, floor_is, small, depth_le, begin_is, begin_fresh_is}
 use Rattle.sx_parse.proofs.Following.{follow_is, replaced_is}
 
 -- ---- behind a name
@@ -151,10 +151,10 @@ variable_name_is s (lexeme.Mark x) = refl
 variable_name_is s (lexeme.Wild p) = refl
 variable_name_is s (lexeme.Literal p) = refl
 
-bound_dollar_is : (bs : Bindings) (s : Stack) (l : Lexeme) →
+bound_dollar_is : (bs : Bindings) (s : Stack) (l : Lexeme) → bound_depth (depth s) bs < 2 ^ 32 →
     flat.bound_dollar (kept (comma_bound bs s)) (binder_of bs) l ≡ told (state_roles (comma_bound bs s)) (bound_dollar bs s l)
-bound_dollar_is bs s (lexeme.Mark mark.Dollar) = simp append_assoc
-bound_dollar_is bs s l = refl
+bound_dollar_is bs s (lexeme.Mark mark.Dollar) h = let e = next_is (bound_depth (depth s) bs) h in rw e (simp append_assoc)
+bound_dollar_is bs s l h = refl
 
 bound_name_is : (g : Given) (s : Stack) (l : Lexeme) →
     flat.bound_name (kept (binder_dollar g s)) (given_binder g) (is_first g) l ≡ told (state_roles (binder_dollar g s)) (bound_name g s l)
@@ -202,6 +202,13 @@ follow_slash_is s l h =
 stack_small : (s : Stack) → Small (length (stack_roles s)) → depth s < 2 ^ 32
 stack_small s h = let k = depth_le s in omega arith
 
+bound_small : (bs : Bindings) (s : Stack) → Small (length (state_roles (comma_bound bs s))) → bound_depth (depth s) bs < 2 ^ 32
+bound_small bs s h =
+    let k = depth_le s in
+    let b = bound_le (depth s) bs in
+    let l = simp length-append at h in
+    omega arith
+
 pub read_is : (s : State) (l : Lexeme) → Small (length (state_roles s)) → flat.read (kept s) l ≡ told (state_roles s) (read s l)
 read_is (want s) l h = begin_is s mode.Want l (stack_small s h)
 read_is (fresh s) l h = begin_fresh_is s l (stack_small s h)
@@ -212,7 +219,7 @@ read_is (axis pre s) l h = axis_test_is pre s l
 read_is (kind pre k p s) l h = in_kind_is pre k p s l
 read_is (kind_name pre k p w q s) l h = end_kind_is pre k p w q s l
 read_is (have t s) l h = follow_is t s (mode.Have (shape_of t) (operand_count t)) l h
-read_is (comma_bound bs s) l h = bound_dollar_is bs s l
+read_is (comma_bound bs s) l h = bound_dollar_is bs s l (bound_small bs s h)
 read_is (binder_dollar g s) l h = bound_name_is g s l
 read_is (binder_name g w r s) l h = bind_name_is g w r s l
 read_is (casting t k p s) l h = cast_as_is t k p s l

@@ -155,7 +155,7 @@ count_behind fr = 1
 -- how many things are open then
 abbrev pub depth_behind : Frame → ℕ → ℕ
 depth_behind frame.Otherwise d = d - 1
-depth_behind (frame.Body k r true) d = d - 1
+depth_behind (frame.Body k r i) d = d - 1
 depth_behind fr d = d
 
 -- a frame is joined to the operand behind it
@@ -441,7 +441,7 @@ variable_name f l = refuse f
 
 -- the `$` behind a comma of bindings
 abbrev pub bound_dollar : Flat → Binder → Lexeme → Outcome
-bound_dollar f k (lexeme.Mark mark.Dollar) = turn f (mode.BinderDollar k false) role.Plain
+bound_dollar f k (lexeme.Mark mark.Dollar) = turn (record f { depth = next f.depth }) (mode.BinderDollar k false) (role.Opens (next f.depth))
 bound_dollar f k l = refuse f
 
 -- the name of a variable that a word brings in

@@ -1,5 +1,6 @@
 -- What each token is in a derivation, and how many things are open with it. Open are the parentheses, the predicates and the
--- expressions that begin with a word (`for`, `let`, `some`, `every`, `if`).
+-- expressions that begin with a word (`for`, `let`, `some`, `every`, `if`), each of which has one more open with each further
+-- binding.
 use Rattle.std.specs.Prelude.{ℕ, suc, Bool, true, false, List, [], ◌∷◌, ◌++◌}
 use Rattle.sx_parse.specs.declared.lexemes.KindWord.{KindWord}
 use Rattle.sx_parse.specs.declared.lexemes.KindWord.TheVariants as kind_word
@@ -37,6 +38,11 @@ abbrev pub question_roles : Bool → List Role
 question_roles true = role.Plain ∷ []
 question_roles false = []
 
+-- how many things are open behind bindings, where so many are before them: one more for each
+abbrev pub bound_depth : ℕ → Bindings → ℕ
+bound_depth n (first k p w r l a) = suc n
+bound_depth n (also bs w r l a) = suc (bound_depth n bs)
+
 -- the roles of the tokens of a derivation in which so many things are open, in their order
 abbrev mutual
   pub roles : ℕ → Tree → List Role
@@ -57,8 +63,9 @@ abbrev mutual
   roles n (cast e k p q w r optional) = roles n e ++ role.Plain ∷ role.Plain ∷ role.Type ∷ question_roles optional
   roles n (choice p c q t r e) =
       role.Opens (suc n) ∷ role.Opens (suc (suc n)) ∷ roles (suc (suc n)) c ++ role.Plain ∷ role.Plain ∷ roles (suc n) t ++ role.Plain ∷ roles (suc n) e
-  roles n (bind bs l e) = binding_roles n bs ++ role.Plain ∷ roles (suc n) e
+  roles n (bind bs l e) = binding_roles n bs ++ role.Plain ∷ roles (bound_depth n bs) e
 
   pub binding_roles : ℕ → Bindings → List Role
   binding_roles n (first k p w r l a) = role.Opens (suc n) ∷ role.Plain ∷ role.Name ∷ role.Plain ∷ roles (suc n) a
-  binding_roles n (also bs w r l a) = binding_roles n bs ++ role.Plain ∷ role.Plain ∷ role.Name ∷ role.Plain ∷ roles (suc n) a
+  binding_roles n (also bs w r l a) =
+      binding_roles n bs ++ role.Plain ∷ role.Opens (suc (bound_depth n bs)) ∷ role.Name ∷ role.Plain ∷ roles (suc (bound_depth n bs)) a

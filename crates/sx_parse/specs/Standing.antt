@@ -5,7 +5,12 @@ use Rattle.sx_parse.specs.declared.roles.Role.{Role}
 use Rattle.sx_parse.specs.declared.roles.Role.TheVariants as role
 use Rattle.sx_parse.specs.Machine.{Given, begun, behind, Stack, bottom, pending, more, signed, paren, arguments, predicate, condition, branch, otherwise, binding, body, State, want, fresh, slash, named, dollar, axis, kind, kind_name, have, comma_bound, binder_dollar, binder_name, casting, casting_as, conditioned}
 use Rattle.sx_parse.specs.Nodes.{nodes, value_nodes}
-use Rattle.sx_parse.specs.Roles.{roles, binding_roles, prefix_roles, inner_role}
+use Rattle.sx_parse.specs.Roles.{roles, binding_roles, bound_depth, prefix_roles, inner_role}
+
+-- how many things are open with the binding that has begun, where so many are before the bindings
+abbrev pub given_depth : ℕ → Given → ℕ
+given_depth n (begun k p) = suc n
+given_depth n (behind bs) = suc (bound_depth n bs)
 
 -- how many things are open
 abbrev pub depth : Stack → ℕ
@@ -19,13 +24,13 @@ depth (predicate b s) = suc (depth s)
 depth (condition p s) = suc (suc (depth s))
 depth (branch p c q s) = suc (depth s)
 depth (otherwise p c q t r s) = suc (depth s)
-depth (binding g w r l s) = suc (depth s)
-depth (body bs l s) = suc (depth s)
+depth (binding g w r l s) = given_depth (depth s) g
+depth (body bs l s) = bound_depth (depth s) bs
 
 -- the tokens of bindings up to a `$`
 abbrev pub given_roles : ℕ → Given → List Role
 given_roles n (begun k p) = role.Opens (suc n) ∷ role.Plain ∷ []
-given_roles n (behind bs) = binding_roles n bs ++ role.Plain ∷ role.Plain ∷ []
+given_roles n (behind bs) = binding_roles n bs ++ role.Plain ∷ role.Opens (suc (bound_depth n bs)) ∷ []
 
 abbrev pub stack_roles : Stack → List Role
 stack_roles (bottom p) = []

@@ -107,7 +107,10 @@ impl Reader {
             (λ goes. outcome goes (seen self.new) ≡ flat.bound_dollar (seen self.old) binder lexeme) }
     {
         match lexeme {
-            Lexeme::Mark(Mark::Dollar) => self.turn(Mode::BinderDollar(binder, false), Role::Plain),
+            Lexeme::Mark(Mark::Dollar) => {
+                self.depth = self.depth.saturating_add(1);
+                self.turn(Mode::BinderDollar(binder, false), Role::Opens(self.depth))
+            }
             _ => Ok(false),
         }
     }

@@ -62,7 +62,7 @@ fn depth_behind(frame: Frame, depth: u64) -> u64
     ensures { result ≡ flat.depth_behind frame depth }
 {
     match frame {
-        Frame::Otherwise | Frame::Body { first: true, .. } => depth.saturating_sub(1),
+        Frame::Otherwise | Frame::Body { .. } => depth.saturating_sub(1),
         _ => depth,
     }
 }
