@@ -22,7 +22,7 @@ use Rattle.sx_parse.specs.Standing.{depth, given_depth, stack_roles, stack_nodes
 use Rattle.sx_parse.specs.Machine.{Given, begun, behind, Stack, bottom, pending, more, signed, paren, arguments, predicate, condition, branch, otherwise, binding, body, State, want, fresh, slash, named, dollar, axis, kind, kind_name, have, comma_bound, binder_dollar, binder_name, casting, casting_as, conditioned, in_pattern, floor, given_binder, reaches, when, begin_mark, begin, close_empty, begin_fresh}
 use Rattle.sx_parse.specs.Flat as flat
 use Rattle.sx_parse.specs.Flat.{Flat, Outcome, next}
-use Rattle.sx_parse.proofs.Reached.{shape_of, given_frames, is_first, frames, is_pattern, raw, at, holding, Small, next_is, sub_is}
+use Rattle.sx_parse.proofs.Reached.{shape_of, given_frames, frames, is_pattern, raw, at, holding, Small, next_is, sub_is}
 
 -- ---- what the code keeps in each state
 
@@ -45,9 +45,9 @@ kept (have t s) = holding t s (mode.Have (shape_of t) (operand_count t))
 kept (comma_bound bs s) =
     bound_at (behind bs) s (stack_roles s ++ binding_roles (depth s) bs ++ role.Plain ∷ []) (bound_depth (depth s) bs) (mode.CommaBound (binder_of bs))
 kept (binder_dollar g s) =
-    bound_at g s (stack_roles s ++ given_roles (depth s) g) (given_depth (depth s) g) (mode.BinderDollar (given_binder g) (is_first g))
+    bound_at g s (stack_roles s ++ given_roles (depth s) g) (given_depth (depth s) g) (mode.BinderDollar (given_binder g))
 kept (binder_name g w r s) =
-    bound_at g s (stack_roles s ++ given_roles (depth s) g ++ role.Name ∷ []) (given_depth (depth s) g) (mode.BinderName (given_binder g) r (is_first g))
+    bound_at g s (stack_roles s ++ given_roles (depth s) g ++ role.Name ∷ []) (given_depth (depth s) g) (mode.BinderName (given_binder g) r)
 kept (casting t k p s) = at s (stack_nodes s ++ nodes t) (stack_roles s ++ roles (depth s) t ++ role.Plain ∷ []) (mode.Casting k)
 kept (casting_as t k p q s) =
     at s (stack_nodes s ++ nodes t) (stack_roles s ++ roles (depth s) t ++ role.Plain ∷ role.Plain ∷ []) (mode.CastingAs k)

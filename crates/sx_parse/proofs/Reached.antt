@@ -30,16 +30,12 @@ shape_of (filter b e) = shape.Filtered
 shape_of t = shape.Other
 
 abbrev pub body_frames : Bindings → List Frame
-body_frames (first k p w r l a) = frame.Body k r true ∷ []
-body_frames (also bs w r l a) = frame.Body (binder_of bs) r false ∷ body_frames bs
+body_frames (first k p w r l a) = frame.Body k r ∷ []
+body_frames (also bs w r l a) = frame.Body (binder_of bs) r ∷ body_frames bs
 
 abbrev pub given_frames : Given → List Frame
 given_frames (begun k p) = []
 given_frames (behind bs) = body_frames bs
-
-abbrev pub is_first : Given → Bool
-is_first (begun k p) = true
-is_first (behind bs) = false
 
 abbrev pub frames : Stack → List Frame
 frames (bottom p) = []
@@ -52,7 +48,7 @@ frames (predicate b s) = frame.Predicate (takes_more b) ∷ frames s
 frames (condition p s) = frame.Condition ∷ frames s
 frames (branch p c q s) = frame.Branch ∷ frames s
 frames (otherwise p c q t r s) = frame.Otherwise ∷ frames s
-frames (binding g w r l s) = frame.Binding (given_binder g) r (is_first g) ∷ given_frames g ++ frames s
+frames (binding g w r l s) = frame.Binding (given_binder g) r ∷ given_frames g ++ frames s
 frames (body bs l s) = body_frames bs ++ frames s
 
 abbrev pub is_pattern : Stack → Bool

@@ -25,7 +25,7 @@ use Rattle.sx_parse.specs.Standing.{depth, stack_roles, stack_nodes, state_roles
 use Rattle.sx_parse.specs.Machine.{Given, begun, Stack, signed, arguments, condition, binding, State, want, fresh, slash, named, dollar, axis, kind, kind_name, have, comma_bound, binder_dollar, binder_name, casting, casting_as, conditioned, in_pattern, floor, given_binder, reaches, when, follow, open_kind, open_plain, open_name, name_axis, name_binder, follow_named, axis_test, in_kind, end_kind, variable_name, bound_dollar, bound_name, cast_as, cast_type, then_word, follow_slash, read}
 use Rattle.sx_parse.specs.Flat as flat
 use Rattle.sx_parse.specs.Flat.{Flat}
-use Rattle.sx_parse.proofs.Reached.{shape_of, is_first, frames, is_pattern, at, Small, next_is}
+use Rattle.sx_parse.proofs.Reached.{shape_of, frames, is_pattern, at, Small, next_is}
 use Rattle.sx_parse.proofs.Kept.{bound_le, kept, told, if_is, unless_is, cond_is, either_is, in_pattern_is, floor_is, small, depth_le, begin_is, begin_fresh_is}
 use Rattle.sx_parse.proofs.Following.{follow_is, replaced_is}
 
@@ -157,14 +157,14 @@ bound_dollar_is bs s (lexeme.Mark mark.Dollar) h = let e = next_is (bound_depth 
 bound_dollar_is bs s l h = refl
 
 bound_name_is : (g : Given) (s : Stack) (l : Lexeme) →
-    flat.bound_name (kept (binder_dollar g s)) (given_binder g) (is_first g) l ≡ told (state_roles (binder_dollar g s)) (bound_name g s l)
+    flat.bound_name (kept (binder_dollar g s)) (given_binder g) l ≡ told (state_roles (binder_dollar g s)) (bound_name g s l)
 bound_name_is g s (lexeme.Name w p) = refl
 bound_name_is g s (lexeme.Mark x) = refl
 bound_name_is g s (lexeme.Wild p) = refl
 bound_name_is g s (lexeme.Literal p) = refl
 
 bind_name_is : (g : Given) (w : Word) (r : ℕ) (s : Stack) (l : Lexeme) →
-    flat.bind_name (kept (binder_name g w r s)) (given_binder g) r (is_first g) l
+    flat.bind_name (kept (binder_name g w r s)) (given_binder g) r l
     ≡ told (state_roles (binder_name g w r s)) (when (introduces (given_binder g) l) (want (binding g w r l s)))
 bind_name_is g w r s l = if_is _ (introduces (given_binder g) l) _ _ (want (binding g w r l s)) refl (simp append_assoc)
 

@@ -117,8 +117,8 @@ frame_floor (frame.More n) = 1
 frame_floor (frame.Signed o) = prefix_floor o
 frame_floor frame.Branch = 1
 frame_floor frame.Otherwise = 1
-frame_floor (frame.Binding k n i) = 1
-frame_floor (frame.Body k n i) = 1
+frame_floor (frame.Binding k n) = 1
+frame_floor (frame.Body k n) = 1
 frame_floor fr = 0
 
 -- the least level of what may stand here
@@ -144,7 +144,7 @@ joins n (frame.Pending o) = when_some (nat_le n (level o)) (node.Binary o)
 joins n (frame.More k) = when_some (nat_le n 0) node.Comma
 joins n (frame.Signed o) = when_some (nat_le n (prefix_level o)) (node.Prefix o)
 joins n frame.Otherwise = when_some (nat_le n 1) node.Choice
-joins n (frame.Body k r i) = when_some (nat_le n 1) (node.Bind k r)
+joins n (frame.Body k r) = when_some (nat_le n 1) (node.Bind k r)
 joins n fr = None
 
 -- how many operands commas join then
@@ -155,7 +155,7 @@ count_behind fr = 1
 -- how many things are open then
 abbrev pub depth_behind : Frame → ℕ → ℕ
 depth_behind frame.Otherwise d = d - 1
-depth_behind (frame.Body k r i) d = d - 1
+depth_behind (frame.Body k r) d = d - 1
 depth_behind fr d = d
 
 -- a frame is joined to the operand behind it
@@ -260,15 +260,15 @@ else_under (frame.Branch ∷ fs) f = expect (under f fs) frame.Otherwise role.Pl
 else_under fs f = refuse f
 
 -- `,` behind the value of a variable
-abbrev pub comma_bound : Flat → Binder → ℕ → Bool → Outcome
-comma_bound f k r i = turn (under f (frame.Body k r i ∷ f.frames)) (mode.CommaBound k) role.Plain
+abbrev pub comma_bound : Flat → Binder → ℕ → Outcome
+comma_bound f k r = turn (under f (frame.Body k r ∷ f.frames)) (mode.CommaBound k) role.Plain
 
 -- `,` between operands
 abbrev pub more_operands : Flat → ℕ → Outcome
 more_operands f c = if nat_le (floor f.frames) 0 then expect f (frame.More c) role.Plain else refuse f
 
 abbrev pub comma_under : List Frame → Flat → ℕ → Outcome
-comma_under (frame.Binding k r i ∷ fs) f c = comma_bound (under f fs) k r i
+comma_under (frame.Binding k r ∷ fs) f c = comma_bound (under f fs) k r
 comma_under fs f c = more_operands (under f fs) c
 
 abbrev pub comma : Joined → Outcome
@@ -276,7 +276,7 @@ comma j = comma_under j.flat.frames j.flat j.operands
 
 -- `return` or `satisfies`
 abbrev pub return_under : List Frame → Flat → Lexeme → Outcome
-return_under (frame.Binding k r i ∷ fs) f l = if returns k l then expect (under f fs) (frame.Body k r i) role.Plain else refuse f
+return_under (frame.Binding k r ∷ fs) f l = if returns k l then expect (under f fs) (frame.Body k r) role.Plain else refuse f
 return_under fs f l = refuse f
 
 abbrev pub returned : Flat → Lexeme → Outcome
@@ -393,7 +393,7 @@ name_axis f pre w p = refuse f
 abbrev pub begin_binder : Flat → Binder → Outcome
 begin_binder f k =
     if not (in_pattern f) && nat_le (floor f.frames) 1
-    then turn (record (relabelled f (role.Opens (next f.depth))) { depth = next f.depth }) (mode.BinderDollar k true) role.Plain
+    then turn (record (relabelled f (role.Opens (next f.depth))) { depth = next f.depth }) (mode.BinderDollar k) role.Plain
     else refuse f
 
 -- `$` behind a name
@@ -441,17 +441,17 @@ variable_name f l = refuse f
 
 -- the `$` behind a comma of bindings
 abbrev pub bound_dollar : Flat → Binder → Lexeme → Outcome
-bound_dollar f k (lexeme.Mark mark.Dollar) = turn (record f { depth = next f.depth }) (mode.BinderDollar k false) (role.Opens (next f.depth))
+bound_dollar f k (lexeme.Mark mark.Dollar) = turn (record f { depth = next f.depth }) (mode.BinderDollar k) (role.Opens (next f.depth))
 bound_dollar f k l = refuse f
 
 -- the name of a variable that a word brings in
-abbrev pub bound_name : Flat → Binder → Bool → Lexeme → Outcome
-bound_name f k i (lexeme.Name w p) = turn f (mode.BinderName k p i) role.Name
-bound_name f k i l = refuse f
+abbrev pub bound_name : Flat → Binder → Lexeme → Outcome
+bound_name f k (lexeme.Name w p) = turn f (mode.BinderName k p) role.Name
+bound_name f k l = refuse f
 
 -- the token between that name and its value
-abbrev pub bind_name : Flat → Binder → ℕ → Bool → Lexeme → Outcome
-bind_name f k r i l = if introduces k l then expect f (frame.Binding k r i) role.Plain else refuse f
+abbrev pub bind_name : Flat → Binder → ℕ → Lexeme → Outcome
+bind_name f k r l = if introduces k l then expect f (frame.Binding k r) role.Plain else refuse f
 
 -- `as`
 abbrev pub cast_as : Flat → Casting → Lexeme → Outcome
@@ -491,8 +491,8 @@ read_by (mode.Kind pre k p) f l = in_kind f pre k p l
 read_by (mode.KindName pre t) f l = end_kind f pre t l
 read_by (mode.Have sh c) f l = follow f sh c l
 read_by (mode.CommaBound k) f l = bound_dollar f k l
-read_by (mode.BinderDollar k i) f l = bound_name f k i l
-read_by (mode.BinderName k r i) f l = bind_name f k r i l
+read_by (mode.BinderDollar k) f l = bound_name f k l
+read_by (mode.BinderName k r) f l = bind_name f k r l
 read_by (mode.Casting k) f l = cast_as f k l
 read_by (mode.CastingAs k) f l = cast_type f k l
 read_by mode.Conditioned f l = then_word f l

@@ -14,7 +14,7 @@ use sx_kinds::Function;
 use sx_lex::{Token, TokenKind};
 use sx_names::Scope;
 
-/// The most parentheses, predicates and expressions that begin with a word that are open at once.
+/// The most parentheses, predicates, expressions that begin with a word and further bindings of these that are open at once.
 const MOST_OPEN: u64 = 64;
 
 /// The first fault of the tokens of a text, which have these roles in an expression, or in a pattern.

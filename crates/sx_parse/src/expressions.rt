@@ -127,7 +127,8 @@ pub(crate) fn expression(
     }
 }
 
-/// Reads an expression (XPath 3.1, A.1) of at most 4,096 bytes with at most 64 things open at once, its names in the namespaces
+/// Reads an expression (XPath 3.1, A.1) of at most 4,096 bytes with at most 64 things open at once, among them each binding of
+/// `for`, `let`, `some` and `every` up to the end of what these return, its names in the namespaces
 /// that are in force. Its constructs are numbered from `at.next` on in the order in which they are written, an expression before
 /// its parts; names that are new are added behind the others. Of several faults the one at the least offset is answered, and then
 /// nothing has changed: `SXST0001` for a text that is too long stands before all others; `XPST0003` at the first token at which no

@@ -65,15 +65,11 @@ impl Reader {
         }
     }
 
-    fn comma_bound(&mut self, binder: Binder, name: u32, first: bool) -> Result<bool, AllocError>
+    fn comma_bound(&mut self, binder: Binder, name: u32) -> Result<bool, AllocError>
         ensures { IfOk result
-            (λ goes. outcome goes (seen self.new) ≡ flat.comma_bound (seen self.old) binder name first) }
+            (λ goes. outcome goes (seen self.new) ≡ flat.comma_bound (seen self.old) binder name) }
     {
-        let body = Frame::Body {
-            binder,
-            name,
-            first,
-        };
+        let body = Frame::Body { binder, name };
         self.frames.push(body)?;
         self.turn(Mode::CommaBound(binder), Role::Plain)
     }
@@ -95,13 +91,7 @@ impl Reader {
             (λ goes. outcome goes (seen self.new) ≡ flat.comma (flat.joined (seen self.old) operands)) }
     {
         match self.frames.pop() {
-            Some(
-                Frame::Binding {
-                    binder,
-                    name,
-                    first,
-                },
-            ) => self.comma_bound(binder, name, first),
+            Some(Frame::Binding { binder, name }) => self.comma_bound(binder, name),
             Some(frame) => {
                 self.frames.push(frame)?;
                 self.more_operands(operands)
@@ -115,18 +105,8 @@ impl Reader {
         ensures { IfOk result (λ goes. outcome goes (seen self.new) ≡ flat.returned (seen self.old) lexeme) }
     {
         match self.frames.pop() {
-            Some(
-                Frame::Binding {
-                    binder,
-                    name,
-                    first,
-                },
-            ) if returns(binder, lexeme) => {
-                let body = Frame::Body {
-                    binder,
-                    name,
-                    first,
-                };
+            Some(Frame::Binding { binder, name }) if returns(binder, lexeme) => {
+                let body = Frame::Body { binder, name };
                 self.expect(body, Role::Plain)
             }
             _ => Ok(false),

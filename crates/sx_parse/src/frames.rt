@@ -15,27 +15,17 @@ pub(crate) enum Frame {
     /// a function's name, and `(`
     Arguments(u32),
     /// what is filtered, and `[`; whether that is one more of a step or of what was filtered before
-    Predicate {
-        more: bool,
-    },
+    Predicate { more: bool },
     /// `if` and `(`
     Condition,
     /// `then`, behind a test
     Branch,
     /// `else`, behind a test and a branch
     Otherwise,
-    /// a variable's name, and `in` or `:=`; whether it is the first of its word
-    Binding {
-        binder: Binder,
-        name: u32,
-        first: bool,
-    },
+    /// a variable's name, and `in` or `:=`
+    Binding { binder: Binder, name: u32 },
     /// a variable with its value, in what it is used in, or before the next variable
-    Body {
-        binder: Binder,
-        name: u32,
-        first: bool,
-    },
+    Body { binder: Binder, name: u32 },
 }
 
 /// What an operand is, as far as the tokens behind it ask.
@@ -77,9 +67,9 @@ pub(crate) enum Mode {
     Have(Shape, u64),
     /// behind a comma of bindings
     CommaBound(Binder),
-    /// behind the `$` of a binding; whether it is the first of its word
-    BinderDollar(Binder, bool),
-    BinderName(Binder, u32, bool),
+    /// behind the `$` of a binding, and behind its name
+    BinderDollar(Binder),
+    BinderName(Binder, u32),
     /// behind `cast` or `castable`, and behind `as`
     Casting(Casting),
     CastingAs(Casting),

@@ -109,24 +109,19 @@ impl Reader {
         match lexeme {
             Lexeme::Mark(Mark::Dollar) => {
                 self.depth = self.depth.saturating_add(1);
-                self.turn(Mode::BinderDollar(binder, false), Role::Opens(self.depth))
+                self.turn(Mode::BinderDollar(binder), Role::Opens(self.depth))
             }
             _ => Ok(false),
         }
     }
 
     /// The name of a variable that a word brings in.
-    pub fn bound_name(
-        &mut self,
-        binder: Binder,
-        first: bool,
-        lexeme: Lexeme,
-    ) -> Result<bool, AllocError>
+    pub fn bound_name(&mut self, binder: Binder, lexeme: Lexeme) -> Result<bool, AllocError>
         ensures { IfOk result
-            (λ goes. outcome goes (seen self.new) ≡ flat.bound_name (seen self.old) binder first lexeme) }
+            (λ goes. outcome goes (seen self.new) ≡ flat.bound_name (seen self.old) binder lexeme) }
     {
         match lexeme {
-            Lexeme::Name(_, name) => self.turn(Mode::BinderName(binder, name, first), Role::Name),
+            Lexeme::Name(_, name) => self.turn(Mode::BinderName(binder, name), Role::Name),
             _ => Ok(false),
         }
     }
@@ -136,18 +131,13 @@ impl Reader {
         &mut self,
         binder: Binder,
         name: u32,
-        first: bool,
         lexeme: Lexeme,
     ) -> Result<bool, AllocError>
         ensures { IfOk result
-            (λ goes. outcome goes (seen self.new) ≡ flat.bind_name (seen self.old) binder name first lexeme) }
+            (λ goes. outcome goes (seen self.new) ≡ flat.bind_name (seen self.old) binder name lexeme) }
     {
         if introduces(binder, lexeme) {
-            let binding = Frame::Binding {
-                binder,
-                name,
-                first,
-            };
+            let binding = Frame::Binding { binder, name };
             self.expect(binding, Role::Plain)
         } else {
             Ok(false)

@@ -126,7 +126,7 @@ impl Reader {
         if !self.in_pattern() && self.floor() <= 1 {
             self.depth = self.depth.saturating_add(1);
             replace_last(&mut self.roles, Role::Opens(self.depth));
-            self.turn(Mode::BinderDollar(binder, true), Role::Plain)
+            self.turn(Mode::BinderDollar(binder), Role::Plain)
         } else {
             Ok(false)
         }

@@ -15,7 +15,8 @@ pub enum Role {
     Type,
     /// a literal
     Literal,
-    /// it opens parentheses, a predicate, or an expression that begins with a word; how many are open with it
+    /// it opens parentheses, a predicate, an expression that begins with a word, or a further binding of one; how many are
+    /// open with it
     Opens(u64),
     /// it closes a call: the place of the function's name, and the number of arguments
     Closes { function: u32, arguments: u64 },
