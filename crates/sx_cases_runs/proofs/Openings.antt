@@ -3,7 +3,7 @@ use Rattle.std.proofs.Common.{◌≡◌, inl, inr, ℕ, ◌+◌, ◌<◌, ◌≤
 use Rattle.sx_desk.specs.Desk.{Seen}
 use Rattle.sx_top.specs.Commands.{Runs}
 use Rattle.sx_limits.specs.Limits.{stated}
-use Rattle.sx_reading.specs.Headline.{nothing_written}
+use Rattle.sx_reading.specs.Transforming.{nothing_written}
 use Rattle.sx_top.specs.Run.{run_written, run_outcome}
 use Rattle.sx_top.specs.Stylesheet.{sheet_outcome}
 use Rattle.sx_top.specs.Copy.{copy_written, copy_outcome}

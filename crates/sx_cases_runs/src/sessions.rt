@@ -20,7 +20,7 @@ fn started(
     invocations: u64,
     names: &Names,
 ) -> Result<Session, AllocError> {
-    Session::start(alloc, sheet, invocations, names)
+    Session::start(alloc, &sheet, invocations, names)
 }
 
 // The answer to an event.
