@@ -41,7 +41,7 @@ pub fn words(alloc: Global, text: &str) -> Result<String, AllocError> {
     }
 }
 
-#[tactic(auto, using(crate::proofs::Openings::opens_few))]
+#[tactic(auto, using(sx_top::proofs::Openings::opens_few))]
 fn do_words<D: Desk>(alloc: Global, text: &str, desk: &mut D) -> Result<Status, AllocError>
     requires { (D.seen desk.old).opened ≡ [] }
     ensures { OnOk result (length (D.seen desk.new).opened ≤ 2) }
