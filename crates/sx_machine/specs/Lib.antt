@@ -6,3 +6,4 @@ pub mod Plan
 pub mod Writer
 pub mod Session
 pub mod Growth
+pub mod Steps

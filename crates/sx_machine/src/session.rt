@@ -165,6 +165,7 @@ impl Session {
     ghost use Rattle.sx_machine.specs.Growth.{MayCome};
     ghost use Rattle.sx_machine.specs.Meaning.{IsReady, result_for};
     ghost use Rattle.sx_machine.specs.Session.{StandsOn, Stands, Wrote, Advances, AdvancesToClose, IsOutput, AllTaken, step_of, is_spent};
+    ghost use Rattle.sx_machine.specs.Steps.{AdvancesBy, AdvancesByClose, AdvancesByEnd, AdvancesByStart, Enters, Invokes, Copies};
     ghost use Rattle.sx_named.specs.Named.{NamedElement, named_in_tree, name_at, attributes_at, IsKnown};
     ghost use Rattle.sx_tree.specs.Tree.{Document, TreeEvent, push, starts, ends, says, instructs, closes, has_open};
 
@@ -280,9 +281,7 @@ impl Session {
     // The document is closed.
     fn close(&mut self)
         requires { self.old.state ≡ state.Going }
-        ensures stands { (sheet : Stylesheet) (known : NameTable) (invocations : ℕ) (d : Document NamedElement) (given : ℕ)
-            → d.is_open ≡ true → has_open d.content ≡ false
-            → StandsOn sheet known invocations self.old d given → StandsOn sheet known invocations self.new (push d closes) given }
+        ensures stands { AdvancesByClose self.old self.new }
         ensures kept { is_spent self.new ≡ false }
     {
         self.writer.finish();
@@ -292,10 +291,7 @@ impl Session {
     // An element starts.
     fn start_element(&mut self, label: Label, attrs: Attrs, names: &Names) -> Result<(), AllocError>
         requires { self.old.state ≡ state.Going }
-        ensures ok { OnOk result ((sheet : Stylesheet) (known : NameTable) (invocations : ℕ) (d : Document NamedElement) (e : NamedElement) (given : ℕ)
-            → KeepsPlaces known names.now → IsDistinct names.now → label.number < length names.now
-            → e.name ≡ name_at names.now label → e.attributes ≡ attributes_at names.now attrs → d.is_open ≡ true
-            → StandsOn sheet known invocations self.old d given → StandsOn sheet known invocations self.new (push d (starts e)) given) }
+        ensures ok { OnOk result (AdvancesByStart self.old self.new names.now label attrs) }
         ensures kept { OnOk result (is_spent self.new ≡ false) }
     {
         match job_in(self.frames.as_slice(), self.root) {
@@ -322,11 +318,7 @@ impl Session {
         names: &Names,
     ) -> Result<(), AllocError>
         requires { self.old.state ≡ state.Going }
-        ensures ok { OnOk result ((sheet : Stylesheet) (known : NameTable) (invocations : ℕ) (d : Document NamedElement) (e : NamedElement) (given : ℕ)
-            → KeepsPlaces known names.now → IsDistinct names.now → label.number < length names.now
-            → e.name ≡ name_at names.now label → e.attributes ≡ attributes_at names.now attrs → d.is_open ≡ true
-            → last_job self.old.root (map (task_of known self.old.rules.list) self.old.frames) ≡ job.Apply (suc left)
-            → StandsOn sheet known invocations self.old d given → StandsOn sheet known invocations self.new (push d (starts e)) given) }
+        ensures ok { OnOk result (Enters left self.old self.new names.now label attrs) }
         ensures kept { OnOk result (is_spent self.new ≡ false) }
     {
         match self.rules.find(label.number) {
@@ -343,12 +335,7 @@ impl Session {
     fn invoke(&mut self, left: u64, place: usize, names: &Names) -> Result<(), AllocError>
         requires going { self.old.state ≡ state.Going }
         requires within { place < length self.old.rules.list }
-        ensures ok { OnOk result ((sheet : Stylesheet) (known : NameTable) (invocations : ℕ) (d : Document NamedElement) (e : NamedElement) (given : ℕ)
-            → KeepsPlaces known names.now
-            → ((r : RuleOf) → slice_get self.old.rules.list place ≡ Some r
-            → plan_of left (chosen_for known (is_copying_first sheet.modes) sheet.templates e) ≡ read_plan known r.plan) → d.is_open ≡ true
-            → last_job self.old.root (map (task_of known self.old.rules.list) self.old.frames) ≡ job.Apply (suc left)
-            → StandsOn sheet known invocations self.old d given → StandsOn sheet known invocations self.new (push d (starts e)) given) }
+        ensures ok { OnOk result (Invokes left self.old self.new names.now place) }
         ensures kept { OnOk result (is_spent self.new ≡ false) }
     {
         let plan = &self.rules.as_slice()[place].plan;
@@ -371,11 +358,7 @@ impl Session {
         names: &Names,
     ) -> Result<(), AllocError>
         requires { self.old.state ≡ state.Going }
-        ensures ok { OnOk result ((sheet : Stylesheet) (known : NameTable) (invocations : ℕ) (d : Document NamedElement) (e : NamedElement) (given : ℕ)
-            → e.name ≡ name_at names.now label → e.attributes ≡ attributes_at names.now attrs
-            → chosen_for known (is_copying_first sheet.modes) sheet.templates e ≡ built_in true e → d.is_open ≡ true
-            → last_job self.old.root (map (task_of known self.old.rules.list) self.old.frames) ≡ job.Apply (suc left)
-            → StandsOn sheet known invocations self.old d given → StandsOn sheet known invocations self.new (push d (starts e)) given) }
+        ensures ok { OnOk result (Copies left self.old self.new names.now label attrs) }
         ensures kept { OnOk result (is_spent self.new ≡ false) }
     {
         self.writer.push(Raw::Start(label), names)?;
@@ -395,9 +378,7 @@ impl Session {
     // The innermost open element ends, if one is open.
     fn end_element(&mut self, names: &Names) -> Result<(), AllocError>
         requires { self.old.state ≡ state.Going }
-        ensures ok { OnOk result ((sheet : Stylesheet) (known : NameTable) (invocations : ℕ) (d : Document NamedElement) (given : ℕ)
-            → KeepsPlaces known names.now → d.is_open ≡ true
-            → StandsOn sheet known invocations self.old d given → StandsOn sheet known invocations self.new (push d ends) given) }
+        ensures ok { OnOk result (AdvancesByEnd self.old self.new names.now) }
         ensures kept { OnOk result (is_spent self.new ≡ false) }
     {
         match self.frames.pop() {
@@ -439,9 +420,7 @@ impl Session {
     // A text comes: the built-in template copies it.
     fn say(&mut self, text: Chars, names: &Names) -> Result<(), AllocError>
         requires { self.old.state ≡ state.Going }
-        ensures ok { OnOk result ((sheet : Stylesheet) (known : NameTable) (invocations : ℕ) (d : Document NamedElement) (given : ℕ)
-            → d.is_open ≡ true
-            → StandsOn sheet known invocations self.old d given → StandsOn sheet known invocations self.new (push d (says text)) given) }
+        ensures ok { OnOk result (AdvancesBy self.old self.new (says text)) }
         ensures kept { OnOk result (is_spent self.new ≡ false) }
     {
         match job_in(self.frames.as_slice(), self.root) {
@@ -459,10 +438,7 @@ impl Session {
     // A processing instruction comes: the built-in template copies it, or gives nothing.
     fn instruct(&mut self, target: Chars, content: Chars, names: &Names) -> Result<(), AllocError>
         requires { self.old.state ≡ state.Going }
-        ensures ok { OnOk result ((sheet : Stylesheet) (known : NameTable) (invocations : ℕ) (d : Document NamedElement) (given : ℕ)
-            → d.is_open ≡ true
-            → StandsOn sheet known invocations self.old d given
-            → StandsOn sheet known invocations self.new (push d (instructs target content)) given) }
+        ensures ok { OnOk result (AdvancesBy self.old self.new (instructs target content)) }
         ensures kept { OnOk result (is_spent self.new ≡ false) }
     {
         match job_in(self.frames.as_slice(), self.root) {
