@@ -4,3 +4,4 @@ pub mod Numbers
 pub mod Shown
 pub mod Machine
 pub mod Looking
+pub mod Steps

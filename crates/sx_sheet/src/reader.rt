@@ -2,11 +2,11 @@
 ghost use Rattle.std.specs.Prelude.{◌≡◌, ◌+◌, ◌≤◌, ◌<◌, ◌^◌, List, ℕ, IfOk, IfSome, Option, option_map, reverse};
 ghost use Rattle.sx_named.specs.Named.{Name};
 ghost use Rattle.sx_names.specs.Numbering.{NameTable, KeepsPlaces};
-ghost use Rattle.sx_sheet.specs.Looking.{Gives};
 ghost use Rattle.sx_sheet.specs.Machine as machine;
 ghost use Rattle.sx_sheet.specs.Machine.{state_of};
 ghost use Rattle.sx_sheet.specs.Numbers as numbers;
 ghost use Rattle.sx_sheet.specs.Shown.{shown, IsShown};
+ghost use Rattle.sx_sheet.specs.Steps.{StepsTo, StepsAs, StepsAt, StepsWithout};
 
 use crate::stages::{Stage, TemplateStart};
 use crate::tokens::Token;
@@ -130,7 +130,7 @@ impl Reader {
 
     // The same at another stage, with one instruction more in the body.
     fn with(mut self, stage: Stage, instr: Instr) -> Result<Reader, AllocError>
-        ensures step { IfOk result (λ r. (tokens : ℕ) → state_of (tokens + 1) r ≡ machine.with_instr (state_of tokens self) stage instr) }
+        ensures step { IfOk result (λ r. StepsTo (λ state. machine.with_instr state stage instr) self r) }
         ensures near { IfOk result (λ r. r.constructs ≡ self.constructs) }
     {
         self.body.push(instr)?;
@@ -139,7 +139,7 @@ impl Reader {
 
     // A token at a stage that expects but one.
     fn fixed(self, token: Token<'_>) -> Option<Reader>
-        ensures step { (names : NameTable) (tokens : ℕ) → option_map (state_of (tokens + 1)) result ≡ machine.fixed self.stage (state_of tokens self) (shown names token.entry) }
+        ensures step { StepsWithout (machine.fixed self.stage) token.entry self result }
         ensures near { IfSome result (λ r. r.constructs ≤ self.constructs + 2) }
     {
         match (self.stage, token) {
@@ -181,7 +181,7 @@ impl Reader {
     ) -> Result<Option<Reader>, AllocError>
         requires { self.constructs < 2 ^ 62 }
         ensures kept { KeepsPlaces names.old names.new }
-        ensures step { IfOk result (λ r. (look : Name → Option ℕ) (tokens : ℕ) → Gives names.new look → option_map (state_of (tokens + 1)) r ≡ machine.between look line (state_of tokens self) (shown names.old token.entry)) }
+        ensures step { IfOk result (λ r. StepsAs (λ look state. machine.between look line state (shown names.old token.entry)) names.new self r) }
         ensures near { IfOk result (λ r. IfSome r (λ n. n.constructs ≤ self.constructs + 2)) }
     {
         match token {
@@ -210,7 +210,7 @@ impl Reader {
         line: u64,
     ) -> Result<Reader, AllocError>
         requires { self.constructs < 2 ^ 62 }
-        ensures step { IfOk result (λ r. (tokens : ℕ) → state_of (tokens + 1) r ≡ machine.with_literal line template (state_of tokens self) number) }
+        ensures step { IfOk result (λ r. StepsTo (λ state. machine.with_literal line template state number) self r) }
         ensures near { IfOk result (λ r. r.constructs ≤ self.constructs + 2) }
     {
         let mut outer = self.outer;
@@ -235,7 +235,7 @@ impl Reader {
         alloc: Global,
         template_start: TemplateStart,
     ) -> Result<Reader, AllocError>
-        ensures step { IfOk result (λ r. (tokens : ℕ) → state_of (tokens + 1) r ≡ machine.end_innermost template_start (state_of tokens self) (reverse self.outer)) }
+        ensures step { IfOk result (λ r. StepsTo (λ state. machine.end_innermost template_start state (reverse self.outer)) self r) }
         ensures near { IfOk result (λ r. r.constructs ≡ self.constructs) }
     {
         let mut outer = self.outer;
@@ -281,7 +281,7 @@ impl Reader {
         line: u64,
     ) -> Result<Option<Reader>, AllocError>
         requires { self.constructs < 2 ^ 62 }
-        ensures step { IfOk result (λ r. (names : NameTable) (look : Name → Option ℕ) (tokens : ℕ) → IsShown names token.entry → Gives names look → option_map (state_of (tokens + 1)) r ≡ machine.inside look line template (state_of tokens self) (shown names token.entry)) }
+        ensures step { IfOk result (λ r. StepsAt (λ look state shows. machine.inside look line template state shows) token.entry self r) }
         ensures near { IfOk result (λ r. IfSome r (λ n. n.constructs ≤ self.constructs + 2)) }
     {
         match token {
@@ -316,7 +316,7 @@ impl Reader {
         line: u64,
     ) -> Result<Reader, AllocError>
         requires { self.constructs < 2 ^ 62 }
-        ensures step { IfOk result (λ r. (tokens : ℕ) → state_of (tokens + 1) r ≡ machine.with_apply line template (state_of tokens self)) }
+        ensures step { IfOk result (λ r. StepsTo (machine.with_apply line template) self r) }
         ensures near { IfOk result (λ r. r.constructs ≤ self.constructs + 2) }
     {
         let construct = next_construct(self.constructs, line, ConstructKind::ApplyTemplates);
@@ -336,7 +336,7 @@ impl Reader {
         construct: Construct,
         token: Token<'_>,
     ) -> Result<Option<Reader>, AllocError>
-        ensures step { IfOk result (λ r. (names : NameTable) (tokens : ℕ) → option_map (state_of (tokens + 1)) r ≡ machine.in_text template construct (state_of tokens self) (shown names token.entry)) }
+        ensures step { IfOk result (λ r. StepsWithout (machine.in_text template construct) token.entry self r) }
         ensures near { IfOk result (λ r. IfSome r (λ n. n.constructs ≤ self.constructs + 2)) }
     {
         match token {
@@ -365,7 +365,7 @@ impl Reader {
         requires small { self.constructs < 2 ^ 62 }
         requires known { IsShown names.old token }
         ensures kept { KeepsPlaces names.old names.new }
-        ensures step { IfOk result (λ r. (look : Name → Option ℕ) (tokens : ℕ) → Gives names.new look → option_map (state_of (tokens + 1)) r ≡ machine.step look line (state_of tokens self) (shown names.old token.entry)) }
+        ensures step { IfOk result (λ r. StepsAs (λ look state. machine.step look line state (shown names.old token.entry)) names.new self r) }
         ensures near { IfOk result (λ r. IfSome r (λ n. n.constructs ≤ self.constructs + 2)) }
     {
         match self.stage {
