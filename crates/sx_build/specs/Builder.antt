@@ -10,7 +10,7 @@ use Rattle.sx_build.specs.Asked.{Asked}
 use Rattle.sx_build.specs.Content.{Held}
 use Rattle.sx_build.specs.FixUp.{Binding}
 use Rattle.sx_build.specs.Build.{Open, printed_name, Build}
-use Rattle.sx_build.specs.Course.{Course, reached}
+use Rattle.sx_build.specs.Course.{Course, reached, at_work, after_in, gives_in, held_start, with_held}
 use Rattle.sx_build.specs.InForce.{in_force}
 use Rattle.sx_build.specs.Withheld.{Holds}
 
@@ -84,3 +84,23 @@ pub record StandsFor (b : Builder) (asked : List Asked) (at_end : Bool) (given :
 -- After this was asked for, and after it was or was not told that the content is at its end, the builder has given so many.
 abbrev pub BuilderStands : Builder → List Asked → Bool → ℕ → Type 0
 BuilderStands b asked at_end given = StandsFor b asked at_end given
+
+-- What building had come to, with what was fixed, it came to with what is behind it; and so much more is fixed.
+abbrev pub KeepsOn : (List Open → Option Held → Bool → Course) → (List Open → Option Held → Bool → List Built) → Builder → Builder → Type 0
+KeepsOn onward added old new =
+    (os : List Open) (held : Option Held) (behind_atom : Bool) (fixed : List Built) →
+    KeepsTo (at_work os held behind_atom) old fixed →
+    KeepsTo (onward os held behind_atom) new (fixed ++ added os held behind_atom)
+
+-- the same, where this was asked for
+abbrev pub KeepsAsked : Asked → Builder → Builder → Type 0
+KeepsAsked a old new =
+    (os : List Open) (held : Option Held) (behind_atom : Bool) (fixed : List Built) →
+    KeepsTo (at_work os held behind_atom) old fixed →
+    KeepsTo (after_in os held behind_atom a) new (fixed ++ gives_in os held behind_atom a)
+
+-- the start that was withheld, if there was one, is fixed
+abbrev pub Settles : Builder → Builder → Type 0
+Settles old new =
+    (os : List Open) (held : Option Held) (fixed : List Built) →
+    Withholds os held old fixed → Withholds (with_held os held) None new (fixed ++ held_start os held)

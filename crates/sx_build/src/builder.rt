@@ -73,7 +73,7 @@ impl Builder {
     ghost use Rattle.sx_build.specs.Build.{Build, Open, error_of};
     ghost use Rattle.sx_build.specs.Content.{Held as HeldStart};
     ghost use Rattle.sx_build.specs.Course.{Course, at_work, gives, gives_in, after, after_in, held_start, with_held, text_gives, after_text};
-    ghost use Rattle.sx_build.specs.Builder.{BuilderStands, Withholds, KeepsTo, answer_of, is_spent};
+    ghost use Rattle.sx_build.specs.Builder.{BuilderStands, KeepsTo, KeepsOn, KeepsAsked, Settles, answer_of, is_spent};
 
     /// A builder that nothing was asked of. It takes no memory.
     pub fn new(alloc: Global) -> Builder
@@ -144,8 +144,7 @@ impl Builder {
 
     // Takes what comes next.
     fn take_next(&mut self, raw: Raw, names: &Names) -> Result<(), AllocError>
-        ensures keeps { OnOk result ((os : List Open) (held : Option HeldStart) (behind_atom : Bool) (fixed : List Event) → KeepsTo (at_work os held behind_atom) self.old fixed
-            → KeepsTo (after_in os held behind_atom (asked_at names.now raw)) self.new (fixed ++ gives_in os held behind_atom (asked_at names.now raw))) }
+        ensures keeps { OnOk result (KeepsAsked (asked_at names.now raw) self.old self.new) }
         ensures kept { OnOk result (is_spent self.new ≡ is_spent self.old) }
     {
         match raw {
@@ -163,8 +162,7 @@ impl Builder {
 
     // The withheld start is fixed, if there is one.
     fn settle(&mut self) -> Result<(), AllocError>
-        ensures settles { OnOk result ((os : List Open) (held : Option HeldStart) (fixed : List Event) → Withholds os held self.old fixed
-            → Withholds (with_held os held) None self.new (fixed ++ held_start os held)) }
+        ensures settles { OnOk result (Settles self.old self.new) }
         ensures behind_atom { self.new.behind_atom ≡ self.old.behind_atom }
         ensures error { self.new.error ≡ self.old.error }
         ensures spent { self.new.spent ≡ self.old.spent }
@@ -181,8 +179,7 @@ impl Builder {
 
     // An element begins. Its start is withheld.
     fn take_start(&mut self, label: Label, names: &Names) -> Result<(), AllocError>
-        ensures keeps { OnOk result ((os : List Open) (held : Option HeldStart) (behind_atom : Bool) (fixed : List Event) → KeepsTo (at_work os held behind_atom) self.old fixed
-            → KeepsTo (after_in os held behind_atom (starts (name_at names.now label))) self.new (fixed ++ gives_in os held behind_atom (starts (name_at names.now label)))) }
+        ensures keeps { OnOk result (KeepsAsked (starts (name_at names.now label)) self.old self.new) }
         ensures kept { OnOk result (is_spent self.new ≡ is_spent self.old) }
     {
         self.settle()?;
@@ -198,8 +195,7 @@ impl Builder {
 
     // The innermost open element ends, if one is open.
     fn take_end(&mut self) -> Result<(), AllocError>
-        ensures keeps { OnOk result ((os : List Open) (held : Option HeldStart) (behind_atom : Bool) (fixed : List Event) → KeepsTo (at_work os held behind_atom) self.old fixed
-            → KeepsTo (after_in os held behind_atom ends) self.new (fixed ++ gives_in os held behind_atom ends)) }
+        ensures keeps { OnOk result (KeepsAsked ends self.old self.new) }
         ensures kept { OnOk result (is_spent self.new ≡ is_spent self.old) }
     {
         self.settle()?;
@@ -216,8 +212,7 @@ impl Builder {
 
     // An attribute comes. Where no start is withheld, that is an error.
     fn take_attribute(&mut self, attr: Attr, names: &Names) -> Result<(), AllocError>
-        ensures keeps { OnOk result ((os : List Open) (held : Option HeldStart) (behind_atom : Bool) (fixed : List Event) → KeepsTo (at_work os held behind_atom) self.old fixed
-            → KeepsTo (after_in os held behind_atom (has (attribute_at names.now attr))) self.new (fixed ++ gives_in os held behind_atom (has (attribute_at names.now attr)))) }
+        ensures keeps { OnOk result (KeepsAsked (has (attribute_at names.now attr)) self.old self.new) }
         ensures kept { OnOk result (is_spent self.new ≡ is_spent self.old) }
     {
         self.behind_atom = false;
@@ -243,8 +238,8 @@ impl Builder {
 
     // A text comes, which may be empty, and may be an atom.
     fn take_text(&mut self, text: Chars, is_atom: bool) -> Result<(), AllocError>
-        ensures keeps { OnOk result ((os : List Open) (held : Option HeldStart) (behind_atom : Bool) (fixed : List Event) → KeepsTo (at_work os held behind_atom) self.old fixed
-            → KeepsTo (after_text os held is_atom text) self.new (fixed ++ text_gives os held text)) }
+        ensures keeps { OnOk result (KeepsOn (λ os held behind_atom. after_text os held is_atom text)
+            (λ os held behind_atom. text_gives os held text) self.old self.new) }
         ensures kept { OnOk result (is_spent self.new ≡ is_spent self.old) }
     {
         if text.as_str().is_empty() {
@@ -256,8 +251,8 @@ impl Builder {
 
     // An event comes that is no start and no end, and with it the withheld start is fixed.
     fn take_event(&mut self, e: Built, is_atom: bool) -> Result<(), AllocError>
-        ensures keeps { OnOk result ((os : List Open) (held : Option HeldStart) (behind_atom : Bool) (fixed : List Event) → KeepsTo (at_work os held behind_atom) self.old fixed
-            → KeepsTo (at_work (with_held os held) None is_atom) self.new (fixed ++ (held_start os held ++ e ∷ []))) }
+        ensures keeps { OnOk result (KeepsOn (λ os held behind_atom. at_work (with_held os held) None is_atom)
+            (λ os held behind_atom. held_start os held ++ e ∷ []) self.old self.new) }
         ensures kept { OnOk result (is_spent self.new ≡ is_spent self.old) }
     {
         self.settle()?;

@@ -34,6 +34,14 @@ IsLine (kind.End name) = IsName name
 IsLine (kind.Text text) = IsUtf8 text × (0 < length text)
 IsLine (kind.Pi target content) = IsTarget target × IsUtf8 content
 
+-- such a line, and its bytes are these
+abbrev pub IsLineOf : List ℕ → Line → Type 0
+IsLineOf bytes l = IsLine l × (line_bytes l ≡ bytes)
+
+-- there is no such line with these bytes
+abbrev pub IsNoLine : List ℕ → Type 0
+IsNoLine bytes = (l : Line) → IsLine l → ¬ (line_bytes l ≡ bytes)
+
 -- each of these is such a line
 abbrev pub AreLines : List Line → Type 0
 AreLines [] = Unit {0}

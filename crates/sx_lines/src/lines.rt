@@ -3,7 +3,7 @@ ghost use Rattle.std.specs.Prelude.{◌≡◌, ℕ, [], ◌∷◌, ◌++◌, Lis
 ghost use Rattle.sx_lines.specs.declared.lines.Line.{Line};
 ghost use Rattle.sx_lines.specs.Print.{escape};
 ghost use Rattle.sx_lines.specs.Normal.{IsName, IsTarget};
-ghost use Rattle.sx_lines.specs.Lines.{Lacks, word_cdata, line_bytes, IsLine};
+ghost use Rattle.sx_lines.specs.Lines.{Lacks, word_cdata, IsLineOf, IsNoLine};
 
 use crate::Pair;
 use crate::unescaping::read_text;
@@ -39,8 +39,8 @@ pub fn split_at_byte(mark: u8, bytes: &[u8]) -> Option<(&[u8], &[u8])>
 
 /// The line that these bytes are, without a newline at their end, or `None` where they are none.
 pub fn read_line(alloc: Global, bytes: &[u8]) -> Result<Option<Line>, AllocError>
-    ensures found { IfOk result (λ answer. IfSome answer (λ line. IsLine line × (line_bytes line ≡ bytes.now))) }
-    ensures none { IfOk result (λ answer. IfNone answer ((line : Line) → IsLine line → ¬ (line_bytes line ≡ bytes.now))) }
+    ensures found { IfOk result (λ answer. IfSome answer (IsLineOf bytes.now)) }
+    ensures none { IfOk result (λ answer. IfNone answer (IsNoLine bytes.now)) }
 {
     match bytes.split_first() {
         Some((first, rest)) => read_command(alloc, *first, rest),
@@ -50,8 +50,8 @@ pub fn read_line(alloc: Global, bytes: &[u8]) -> Result<Option<Line>, AllocError
 
 // The line that has this first byte and the others behind it.
 fn read_command(alloc: Global, first: u8, rest: &[u8]) -> Result<Option<Line>, AllocError>
-    ensures found { IfOk result (λ answer. IfSome answer (λ line. IsLine line × (line_bytes line ≡ first ∷ rest.now))) }
-    ensures none { IfOk result (λ answer. IfNone answer ((line : Line) → IsLine line → ¬ (line_bytes line ≡ first ∷ rest.now))) }
+    ensures found { IfOk result (λ answer. IfSome answer (IsLineOf (first ∷ rest.now))) }
+    ensures none { IfOk result (λ answer. IfNone answer (IsNoLine (first ∷ rest.now))) }
 {
     match first {
         b'A' => read_pair(alloc, rest),
@@ -97,8 +97,8 @@ fn read_target(alloc: Global, bytes: &[u8]) -> Result<Option<Chars>, AllocError>
 
 // The start of an element.
 fn read_start(alloc: Global, bytes: &[u8]) -> Result<Option<Line>, AllocError>
-    ensures found { IfOk result (λ answer. IfSome answer (λ line. IsLine line × (line_bytes line ≡ 40 ∷ bytes.now))) }
-    ensures none { IfOk result (λ answer. IfNone answer ((line : Line) → IsLine line → ¬ (line_bytes line ≡ 40 ∷ bytes.now))) }
+    ensures found { IfOk result (λ answer. IfSome answer (IsLineOf (40 ∷ bytes.now))) }
+    ensures none { IfOk result (λ answer. IfNone answer (IsNoLine (40 ∷ bytes.now))) }
 {
     match read_name(alloc, bytes)? {
         Some(name) => Ok(Some(Line::Start(name))),
@@ -108,8 +108,8 @@ fn read_start(alloc: Global, bytes: &[u8]) -> Result<Option<Line>, AllocError>
 
 // The end of an element.
 fn read_end(alloc: Global, bytes: &[u8]) -> Result<Option<Line>, AllocError>
-    ensures found { IfOk result (λ answer. IfSome answer (λ line. IsLine line × (line_bytes line ≡ 41 ∷ bytes.now))) }
-    ensures none { IfOk result (λ answer. IfNone answer ((line : Line) → IsLine line → ¬ (line_bytes line ≡ 41 ∷ bytes.now))) }
+    ensures found { IfOk result (λ answer. IfSome answer (IsLineOf (41 ∷ bytes.now))) }
+    ensures none { IfOk result (λ answer. IfNone answer (IsNoLine (41 ∷ bytes.now))) }
 {
     match read_name(alloc, bytes)? {
         Some(name) => Ok(Some(Line::End(name))),
@@ -119,8 +119,8 @@ fn read_end(alloc: Global, bytes: &[u8]) -> Result<Option<Line>, AllocError>
 
 // A text, which is not empty.
 fn read_text_line(alloc: Global, bytes: &[u8]) -> Result<Option<Line>, AllocError>
-    ensures found { IfOk result (λ answer. IfSome answer (λ line. IsLine line × (line_bytes line ≡ 45 ∷ bytes.now))) }
-    ensures none { IfOk result (λ answer. IfNone answer ((line : Line) → IsLine line → ¬ (line_bytes line ≡ 45 ∷ bytes.now))) }
+    ensures found { IfOk result (λ answer. IfSome answer (IsLineOf (45 ∷ bytes.now))) }
+    ensures none { IfOk result (λ answer. IfNone answer (IsNoLine (45 ∷ bytes.now))) }
 {
     if bytes.is_empty() {
         return Ok(None);
@@ -133,8 +133,8 @@ fn read_text_line(alloc: Global, bytes: &[u8]) -> Result<Option<Line>, AllocErro
 
 // An attribute: its name, and behind a space the word CDATA, a space and its value.
 fn read_pair(alloc: Global, bytes: &[u8]) -> Result<Option<Line>, AllocError>
-    ensures found { IfOk result (λ answer. IfSome answer (λ line. IsLine line × (line_bytes line ≡ 65 ∷ bytes.now))) }
-    ensures none { IfOk result (λ answer. IfNone answer ((line : Line) → IsLine line → ¬ (line_bytes line ≡ 65 ∷ bytes.now))) }
+    ensures found { IfOk result (λ answer. IfSome answer (IsLineOf (65 ∷ bytes.now))) }
+    ensures none { IfOk result (λ answer. IfNone answer (IsNoLine (65 ∷ bytes.now))) }
 {
     match split_at_byte(b' ', bytes) {
         Some((name, rest)) => read_value(alloc, name, rest),
@@ -145,8 +145,8 @@ fn read_pair(alloc: Global, bytes: &[u8]) -> Result<Option<Line>, AllocError>
 // An attribute, of whose line this stands in front of the first space and this behind it.
 fn read_value(alloc: Global, name: &[u8], rest: &[u8]) -> Result<Option<Line>, AllocError>
     requires { Lacks 32 name.now }
-    ensures found { IfOk result (λ answer. IfSome answer (λ line. IsLine line × (line_bytes line ≡ 65 ∷ name.now ++ 32 ∷ rest.now))) }
-    ensures none { IfOk result (λ answer. IfNone answer ((line : Line) → IsLine line → ¬ (line_bytes line ≡ 65 ∷ name.now ++ 32 ∷ rest.now))) }
+    ensures found { IfOk result (λ answer. IfSome answer (IsLineOf (65 ∷ name.now ++ 32 ∷ rest.now))) }
+    ensures none { IfOk result (λ answer. IfNone answer (IsNoLine (65 ∷ name.now ++ 32 ∷ rest.now))) }
 {
     match behind_cdata(rest) {
         Some(value) => read_pair_parts(alloc, name, value),
@@ -167,8 +167,8 @@ fn behind_cdata(bytes: &[u8]) -> Option<&[u8]>
 // An attribute by its name and its escaped value.
 fn read_pair_parts(alloc: Global, name: &[u8], value: &[u8]) -> Result<Option<Line>, AllocError>
     requires { Lacks 32 name.now }
-    ensures found { IfOk result (λ answer. IfSome answer (λ line. IsLine line × (line_bytes line ≡ 65 ∷ name.now ++ 32 ∷ (word_cdata ++ value.now)))) }
-    ensures none { IfOk result (λ answer. IfNone answer ((line : Line) → IsLine line → ¬ (line_bytes line ≡ 65 ∷ name.now ++ 32 ∷ (word_cdata ++ value.now)))) }
+    ensures found { IfOk result (λ answer. IfSome answer (IsLineOf (65 ∷ name.now ++ 32 ∷ (word_cdata ++ value.now)))) }
+    ensures none { IfOk result (λ answer. IfNone answer (IsNoLine (65 ∷ name.now ++ 32 ∷ (word_cdata ++ value.now)))) }
 {
     match read_name(alloc, name)? {
         Some(name) => match read_text(alloc, value)? {
@@ -181,8 +181,8 @@ fn read_pair_parts(alloc: Global, name: &[u8], value: &[u8]) -> Result<Option<Li
 
 // A processing instruction: its target, and behind a space its content, where it is not empty.
 fn read_instruction(alloc: Global, bytes: &[u8]) -> Result<Option<Line>, AllocError>
-    ensures found { IfOk result (λ answer. IfSome answer (λ line. IsLine line × (line_bytes line ≡ 63 ∷ bytes.now))) }
-    ensures none { IfOk result (λ answer. IfNone answer ((line : Line) → IsLine line → ¬ (line_bytes line ≡ 63 ∷ bytes.now))) }
+    ensures found { IfOk result (λ answer. IfSome answer (IsLineOf (63 ∷ bytes.now))) }
+    ensures none { IfOk result (λ answer. IfNone answer (IsNoLine (63 ∷ bytes.now))) }
 {
     match split_at_byte(b' ', bytes) {
         Some((target, content)) => read_content(alloc, target, content),
@@ -199,8 +199,8 @@ fn read_instruction(alloc: Global, bytes: &[u8]) -> Result<Option<Line>, AllocEr
 // A processing instruction with content.
 fn read_content(alloc: Global, target: &[u8], content: &[u8]) -> Result<Option<Line>, AllocError>
     requires { Lacks 32 target.now }
-    ensures found { IfOk result (λ answer. IfSome answer (λ line. IsLine line × (line_bytes line ≡ 63 ∷ target.now ++ 32 ∷ content.now))) }
-    ensures none { IfOk result (λ answer. IfNone answer ((line : Line) → IsLine line → ¬ (line_bytes line ≡ 63 ∷ target.now ++ 32 ∷ content.now))) }
+    ensures found { IfOk result (λ answer. IfSome answer (IsLineOf (63 ∷ target.now ++ 32 ∷ content.now))) }
+    ensures none { IfOk result (λ answer. IfNone answer (IsNoLine (63 ∷ target.now ++ 32 ∷ content.now))) }
 {
     if content.is_empty() {
         return Ok(None);

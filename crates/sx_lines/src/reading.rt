@@ -4,7 +4,7 @@ ghost use Rattle.sx_lines.specs.declared.events.Built.{Built};
 ghost use Rattle.sx_lines.specs.declared.lines.Line.{Line};
 ghost use Rattle.sx_lines.specs.Normal.{IsNormal, whole};
 ghost use Rattle.sx_lines.specs.Lines.{line_bytes, IsLine, events_of};
-ghost use Rattle.sx_lines.specs.Reader.{ReadsAs};
+ghost use Rattle.sx_lines.specs.Reader.{ReadsAs, ReadsMore, Refuses, ReadsBytes, RefusesBytes};
 
 use crate::lines::{Line, read_line, split_at_byte};
 use crate::{Built, Builts, Pairs};
@@ -37,8 +37,8 @@ impl Reader {
 
     // Takes a line, or answers that it may not stand here.
     fn take(&mut self, line: Line) -> Result<bool, AllocError>
-        ensures taken { IfOk result (λ taken. taken ≡ true → (lines : List Line) → ReadsAs self.old lines → ReadsAs self.new (lines ++ line ∷ [])) }
-        ensures refused { IfOk result (λ taken. taken ≡ false → (more : List Line) → events_of self.old.after_text self.old.pairs (line ∷ more) ≡ None) }
+        ensures taken { IfOk result (λ taken. taken ≡ true → ReadsMore self.old self.new line) }
+        ensures refused { IfOk result (λ taken. taken ≡ false → Refuses self.old line) }
     {
         match line {
             Line::Pair(pair) => {
@@ -77,8 +77,8 @@ impl Reader {
 
     // Reads a line, or answers that none can stand here that has these bytes.
     fn read(&mut self, bytes: &[u8]) -> Result<bool, AllocError>
-        ensures taken { IfOk result (λ taken. taken ≡ true → (line : Line) × IsLine line × (line_bytes line ≡ bytes.now) × ((lines : List Line) → ReadsAs self.old lines → ReadsAs self.new (lines ++ line ∷ []))) }
-        ensures refused { IfOk result (λ taken. taken ≡ false → (line : Line) (more : List Line) → IsLine line → line_bytes line ≡ bytes.now → events_of self.old.after_text self.old.pairs (line ∷ more) ≡ None) }
+        ensures taken { IfOk result (λ taken. taken ≡ true → ReadsBytes self.old self.new bytes.now) }
+        ensures refused { IfOk result (λ taken. taken ≡ false → RefusesBytes self.old bytes.now) }
     {
         match read_line(self.alloc, bytes)? {
             Some(line) => self.take(line),

@@ -54,3 +54,23 @@ module _ (written : WrittenFor) (outcome : OutcomeFor) where
     abbrev pub AfterTurn : List ℕ → Option Status → Type 0
     AfterTurn b None = (piece : List ℕ) × (1 ≤ length piece) × Running file start now (b ++ piece) × Stands (b ++ piece) false (written (b ++ piece) false)
     AfterTurn b (Some s) = Stops s
+
+module _ (Old New : WrittenFor → OutcomeFor → List ℕ → Bool → List ℕ → Type 0) where
+  -- A consumer was fed these bytes more, or told of the end where there are none.
+  abbrev pub FedMoreFor : List ℕ → Type 0
+  FedMoreFor piece = (written : WrittenFor) (outcome : OutcomeFor) (b w : List ℕ) →
+      Old written outcome b false w → New written outcome (b ++ piece) (is_end piece) w
+
+  -- All that can be written was written, and this is how the loop ends, if it does.
+  abbrev pub FlushesFor : Seen → Seen → Option Status → Type 0
+  FlushesFor old new result =
+      (written : WrittenFor) (outcome : OutcomeFor) (file : ℕ) (start : Seen) (b w : List ℕ) (ended : Bool) →
+      Fed written outcome file start old b ended w → Old written outcome b ended w →
+      AfterFlush written outcome (New written outcome) file start new b ended result
+
+  -- The file was read once, and all that can be written then was written.
+  abbrev pub TurnsFor : ℕ → Seen → Seen → Option Status → Type 0
+  TurnsFor file old new result =
+      (written : WrittenFor) (outcome : OutcomeFor) (start : Seen) (b : List ℕ) →
+      Running written outcome file start old b → Old written outcome b false (written b false) →
+      AfterTurn written outcome (New written outcome) file start new b result

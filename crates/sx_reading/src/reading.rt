@@ -4,7 +4,7 @@ ghost use Rattle.sx_desk.specs.Desk.{Seen};
 ghost use Rattle.sx_desk.specs.declared.desk.Out.TheVariants as out;
 ghost use Rattle.sx_reading.specs.Frame.{Frame};
 ghost use Rattle.sx_reading.specs.Transforming.{WrittenFor, OutcomeFor, TransformsFor, LeavesFor, most_read};
-ghost use Rattle.sx_reading.specs.Turn.{Fed, Running, AfterFlush, AfterTurn, is_end};
+ghost use Rattle.sx_reading.specs.Turn.{FedMoreFor, FlushesFor, TurnsFor};
 ghost use Rattle.sx_reading.specs.declared.status.Status.TheVariants as status;
 
 use crate::send::write_all;
@@ -21,8 +21,7 @@ const MOST_READS: u64 = 1 << 40;
 
 // Feeds the consumer; no bytes say that the input has ended.
 fn advance<C: Consumer>(consumer: &mut C, piece: &[u8]) -> Result<(), AllocError>
-    ensures fed { OnOk result ((written : WrittenFor) (outcome : OutcomeFor) (b w : List ℕ) → C.stands consumer.old written outcome b false w
-        → C.stands consumer.new written outcome (b ++ piece.now) (is_end piece.now) w) }
+    ensures fed { OnOk result (FedMoreFor (C.stands consumer.old) (C.stands consumer.new) piece.now) }
     ensures keeps { C.keeps consumer.old consumer.new }
 {
     if piece.is_empty() {
@@ -35,10 +34,7 @@ fn advance<C: Consumer>(consumer: &mut C, piece: &[u8]) -> Result<(), AllocError
 // Writes all that can be written, and says how the loop ends where it does.
 fn flush<D: Desk, C: Consumer>(desk: &mut D, consumer: &mut C) -> Option<Status>
     ensures frame { (file : ℕ) → Frame file out.Result (D.seen desk.old) (D.seen desk.new) }
-    ensures after { (written : WrittenFor) (outcome : OutcomeFor) (file : ℕ) (start : Seen) (b w : List ℕ) (ended : Bool)
-        → Fed written outcome file start (D.seen desk.old) b ended w
-        → C.stands consumer.old written outcome b ended w
-        → AfterFlush written outcome (C.stands consumer.new written outcome) file start (D.seen desk.new) b ended result }
+    ensures after { FlushesFor (C.stands consumer.old) (C.stands consumer.new) (D.seen desk.old) (D.seen desk.new) result }
     ensures keeps { C.keeps consumer.old consumer.new }
 {
     match write_all(desk, Out::Result, consumer.output()) {
@@ -63,10 +59,7 @@ fn take_turn<D: Desk, C: Consumer>(
     requires small { length buffer.old ≤ most_read }
     requires given { file < length (D.seen desk.old).opened }
     ensures frame { Frame file out.Result (D.seen desk.old) (D.seen desk.new) }
-    ensures after { (written : WrittenFor) (outcome : OutcomeFor) (start : Seen) (b : List ℕ)
-        → Running written outcome file start (D.seen desk.old) b
-        → C.stands consumer.old written outcome b false (written b false)
-        → AfterTurn written outcome (C.stands consumer.new written outcome) file start (D.seen desk.new) b result }
+    ensures after { TurnsFor (C.stands consumer.old) (C.stands consumer.new) file (D.seen desk.old) (D.seen desk.new) result }
     ensures keeps { C.keeps consumer.old consumer.new }
 {
     let count = match desk.read(file, buffer) {
