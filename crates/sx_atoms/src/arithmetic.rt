@@ -1,6 +1,9 @@
 // Arithmetic of atoms.
 ghost use Rattle.std.specs.Prelude.{◌≡◌, ◌≢◌, pos, IfOk};
-ghost use Rattle.sx_atoms.specs.Arithmetic.{number_of, operands_of, dividend_and_divisor_of, with_operands, with_divisor, sum_of, difference_of, product_of, decimal_quotient, quotient_of, whole_quotient_of, remainder_of, calculation_of, signed_of};
+ghost use Rattle.sx_atoms.specs.Arithmetic.{number_of, operands_of, dividend_and_divisor_of, with_operands};
+ghost use Rattle.sx_atoms.specs.Arithmetic.{with_divisor, sum_of, difference_of, product_of};
+ghost use Rattle.sx_atoms.specs.Arithmetic.{decimal_quotient, quotient_of, whole_quotient_of, remainder_of};
+ghost use Rattle.sx_atoms.specs.Arithmetic.{calculation_of, signed_of};
 ghost use Rattle.sx_atoms.specs.Numbers.{divisor_of};
 
 use crate::atoms::{Atom, Dec};

@@ -1,7 +1,8 @@
 // Comparison of atoms.
 ghost use Rattle.std.specs.Prelude.{◌≡◌, ◌*ℤ◌, Ok, Err, MatchResult};
 ghost use Rattle.std.specs.Ordering.{int_cmp};
-ghost use Rattle.sx_atoms.specs.Comparison.{order_of, holds, value_of, read_beside, value_beside, comparison_of, seen};
+ghost use Rattle.sx_atoms.specs.Comparison.{order_of, holds, value_of, read_beside, value_beside};
+ghost use Rattle.sx_atoms.specs.Comparison.{comparison_of, seen};
 ghost use Rattle.sx_atoms.specs.Numbers.{units, one};
 
 use crate::atoms::{Atom, Dec};

@@ -1,10 +1,12 @@
 // What a caller relies on, said of the definitions.
-ghost use Rattle.std.specs.Prelude.{◌≡◌, true, Bool, Ok, ℕ, List, ℤ, pos, neg_ℤ, ◌+ℤ◌, ◌-ℤ◌, ◌*ℤ◌, ◌<ℤ◌, ◌≤ℤ◌};
+ghost use Rattle.std.specs.Prelude.{◌≡◌, true, Bool, Ok, ℕ, List, ℤ, pos, neg_ℤ, ◌+ℤ◌};
+ghost use Rattle.std.specs.Prelude.{◌-ℤ◌, ◌*ℤ◌, ◌<ℤ◌, ◌≤ℤ◌};
 ghost use Rattle.std.specs.Cmp.{IsTotalOrder};
 ghost use Rattle.std.specs.Cmp.Lexicographic.{slice_cmp};
 ghost use Rattle.std.specs.Ordering.{nat_cmp};
 ghost use Rattle.std.specs.Str.{encode_utf8_all};
-ghost use Rattle.sx_atoms.specs.Arithmetic.{with_operands, with_divisor, sum_of, product_of, quotient_of, whole_quotient_of, remainder_of, dec};
+ghost use Rattle.sx_atoms.specs.Arithmetic.{with_operands, with_divisor, sum_of, product_of, quotient_of};
+ghost use Rattle.sx_atoms.specs.Arithmetic.{whole_quotient_of, remainder_of, dec};
 ghost use Rattle.sx_atoms.specs.Casting.{cast_of};
 ghost use Rattle.sx_atoms.specs.Comparison.{comparison_of, holds};
 ghost use Rattle.sx_atoms.specs.Laws.{atom_of, type_of, content, order_of_numbers, IsCut};
@@ -70,9 +72,12 @@ pub fn division()
 /// The nearest integer is no more than half of one away, and half of one only upward; the integer below a number is less than
 /// one away; and the one above is minus that below minus the number.
 pub fn rounding()
-    ensures nearest_above { (x : AnyNumber) → ((pos 2 *ℤ units x) -ℤ one) <ℤ ((pos 2 *ℤ rounded x) *ℤ one) }
-    ensures nearest_below { (x : AnyNumber) → ((pos 2 *ℤ rounded x) *ℤ one) ≤ℤ ((pos 2 *ℤ units x) +ℤ one) }
+    ensures nearest_above { (x : AnyNumber)
+        → ((pos 2 *ℤ units x) -ℤ one) <ℤ ((pos 2 *ℤ rounded x) *ℤ one) }
+    ensures nearest_below { (x : AnyNumber)
+        → ((pos 2 *ℤ rounded x) *ℤ one) ≤ℤ ((pos 2 *ℤ units x) +ℤ one) }
     ensures floor_below { (x : AnyNumber) → (floor_of x *ℤ one) ≤ℤ units x }
     ensures floor_above { (x : AnyNumber) → units x <ℤ ((floor_of x +ℤ pos 1) *ℤ one) }
-    ensures ceiling { (x y : AnyNumber) → units y ≡ neg_ℤ (units x) → ceiling_of x ≡ neg_ℤ (floor_of y) }
+    ensures ceiling { (x y : AnyNumber) → units y ≡ neg_ℤ (units x)
+        → ceiling_of x ≡ neg_ℤ (floor_of y) }
 {}

@@ -1,5 +1,6 @@
 // The values that texts write, by the lexical forms of their types.
-ghost use Rattle.std.specs.Prelude.{◌≡◌, ◌+◌, ◌-◌, ◌*◌, ◌^◌, ◌≤◌, min, pos, length, IsTrue, reverse};
+ghost use Rattle.std.specs.Prelude.{◌≡◌, ◌+◌, ◌-◌, ◌*◌, ◌^◌, ◌≤◌, min, pos};
+ghost use Rattle.std.specs.Prelude.{length, IsTrue, reverse};
 ghost use Rattle.std.specs.Char.{is_ascii_digit};
 ghost use Rattle.std.specs.List.{list_all, before_first, after_first, take_while, position};
 ghost use Rattle.std.specs.Str.Parse.{starts_with_minus, without_leading_sign};

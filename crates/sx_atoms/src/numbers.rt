@@ -1,5 +1,6 @@
 // Numbers as operands, and integers that may leave the range of an i128.
-ghost use Rattle.std.specs.Prelude.{◌≡◌, ◌≢◌, pos, neg_ℤ, ◌+ℤ◌, ◌-ℤ◌, ◌*ℤ◌, int_div, int_rem, Ok};
+ghost use Rattle.std.specs.Prelude.{◌≡◌, ◌≢◌, pos, neg_ℤ, ◌+ℤ◌, ◌-ℤ◌, ◌*ℤ◌};
+ghost use Rattle.std.specs.Prelude.{int_div, int_rem, Ok};
 ghost use Rattle.sx_atoms.specs.Numbers as spec;
 ghost use Rattle.sx_atoms.specs.Numbers.{held};
 

@@ -1,5 +1,6 @@
 // Spans of positions.
-ghost use Rattle.std.specs.Prelude.{◌≡◌, ℕ, ◌+◌, ◌<◌, ◌≤◌, ◌&&◌, nat_le, nat_lt, pos, int_le};
+ghost use Rattle.std.specs.Prelude.{◌≡◌, ℕ, ◌+◌, ◌<◌, ◌≤◌, ◌&&◌, nat_le, nat_lt};
+ghost use Rattle.std.specs.Prelude.{pos, int_le};
 ghost use Rattle.sx_atoms.specs.Positions.{selects, span_after, span_counted};
 
 use std::marker::Model;

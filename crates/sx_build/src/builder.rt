@@ -1,5 +1,6 @@
 // The builder: what is asked for in, the built events out.
-ghost use Rattle.std.specs.Prelude.{◌≡◌, [], ◌∷◌, ◌++◌, ℕ, List, Bool, true, false, length, drop, reverse, Option, None, IsErr, OnOk, OnErr, IfOk};
+ghost use Rattle.std.specs.Prelude.{◌≡◌, [], ◌∷◌, ◌++◌, ℕ, List, Bool, true, false, length};
+ghost use Rattle.std.specs.Prelude.{drop, reverse, Option, None, IsErr, OnOk, OnErr, IfOk};
 ghost use Rattle.sx_lines.specs.declared.events.Built.{Built as Event};
 ghost use Rattle.sx_lines.specs.declared.events.Built.TheVariants as event;
 ghost use Rattle.sx_named.specs.Named.{name_at, attribute_at};
@@ -72,8 +73,10 @@ impl Builder {
     ghost use Rattle.sx_build.specs.Content.{misplaced};
     ghost use Rattle.sx_build.specs.Build.{Build, Open, error_of};
     ghost use Rattle.sx_build.specs.Content.{Held as HeldStart};
-    ghost use Rattle.sx_build.specs.Course.{Course, at_work, gives, gives_in, after, after_in, held_start, with_held, text_gives, after_text};
-    ghost use Rattle.sx_build.specs.Builder.{BuilderStands, KeepsTo, KeepsOn, KeepsAsked, Settles, answer_of, is_spent};
+    ghost use Rattle.sx_build.specs.Course.{Course, at_work, gives, gives_in, after, after_in, held_start};
+    ghost use Rattle.sx_build.specs.Course.{with_held, text_gives, after_text};
+    ghost use Rattle.sx_build.specs.Builder.{BuilderStands, KeepsTo, KeepsOn, KeepsAsked, Settles, answer_of};
+    ghost use Rattle.sx_build.specs.Builder.{is_spent};
 
     /// A builder that nothing was asked of. It takes no memory.
     pub fn new(alloc: Global) -> Builder
@@ -100,9 +103,11 @@ impl Builder {
     ///
     /// After an `AllocError` the builder is spent: each later push answers one, and what it gives is not said.
     pub fn push(&mut self, raw: Raw, names: &Names) -> Result<Result<(), Code>, AllocError>
-        ensures stands { OnOk result ((asked : List Asked) (given : ℕ) → BuilderStands self.old asked false given
+        ensures stands { OnOk result ((asked : List Asked) (given : ℕ)
+            → BuilderStands self.old asked false given
             → BuilderStands self.new (asked ++ asked_at names.now raw ∷ []) false given) }
-        ensures answer { IfOk result (λ answer. (asked : List Asked) (given : ℕ) → BuilderStands self.old asked false given
+        ensures answer { IfOk result (λ answer. (asked : List Asked) (given : ℕ)
+            → BuilderStands self.old asked false given
             → answer ≡ answer_of (error_of (asked ++ asked_at names.now raw ∷ []))) }
         ensures err { OnErr result (is_spent self.new ≡ true) }
         ensures spent { is_spent self.old ≡ true → IsErr result }
@@ -133,7 +138,8 @@ impl Builder {
     // Takes what comes next, unless there was an error.
     fn take(&mut self, raw: Raw, names: &Names) -> Result<(), AllocError>
         ensures keeps { OnOk result ((c : Course) (fixed : List Event) → KeepsTo c self.old fixed
-            → KeepsTo (after c (asked_at names.now raw)) self.new (fixed ++ gives c (asked_at names.now raw))) }
+            → KeepsTo (after c (asked_at names.now raw)) self.new (fixed
+            ++ gives c (asked_at names.now raw))) }
         ensures kept { OnOk result (is_spent self.new ≡ is_spent self.old) }
     {
         if self.error.is_some() {
@@ -251,7 +257,8 @@ impl Builder {
 
     // An event comes that is no start and no end, and with it the withheld start is fixed.
     fn take_event(&mut self, e: Built, is_atom: bool) -> Result<(), AllocError>
-        ensures keeps { OnOk result (KeepsOn (λ os held behind_atom. at_work (with_held os held) None is_atom)
+        ensures keeps { OnOk result
+            (KeepsOn (λ os held behind_atom. at_work (with_held os held) None is_atom)
             (λ os held behind_atom. held_start os held ++ e ∷ []) self.old self.new) }
         ensures kept { OnOk result (is_spent self.new ≡ is_spent self.old) }
     {
@@ -263,7 +270,8 @@ impl Builder {
 
     /// Is told that the content is at its end: a withheld start is fixed. It takes no memory.
     pub fn finish(&mut self)
-        ensures stands { (asked : List Asked) (given : ℕ) → BuilderStands self.old asked false given → BuilderStands self.new asked true given }
+        ensures stands { (asked : List Asked) (given : ℕ) → BuilderStands self.old asked false given
+            → BuilderStands self.new asked true given }
         ensures spent { is_spent self.new ≡ is_spent self.old }
     {
         match self.withheld.take() {
@@ -278,14 +286,16 @@ impl Builder {
 
     /// What is fixed and was not cleared yet, in order.
     pub fn output(&self) -> &[Built]
-        ensures { (asked : List Asked) (at_end : Bool) (given : ℕ) → BuilderStands self.now asked at_end given → result.now ≡ drop given (Build asked at_end) }
+        ensures { (asked : List Asked) (at_end : Bool) (given : ℕ)
+            → BuilderStands self.now asked at_end given → result.now ≡ drop given (Build asked at_end) }
     {
         self.pending.as_slice()
     }
 
     /// Drops what is fixed: it was given. It takes no memory, and keeps that of the list.
     pub fn clear_output(&mut self)
-        ensures stands { (asked : List Asked) (at_end : Bool) (given : ℕ) → BuilderStands self.old asked at_end given
+        ensures stands { (asked : List Asked) (at_end : Bool) (given : ℕ)
+            → BuilderStands self.old asked at_end given
             → BuilderStands self.new asked at_end (length (Build asked at_end)) }
         ensures spent { is_spent self.new ≡ is_spent self.old }
     {

@@ -1,5 +1,7 @@
 // A start that is withheld, since attributes may follow it.
-ghost use Rattle.std.specs.Prelude.{◌≡◌, ◌≤◌, slice_set, ◌++◌, [], ◌∷◌, ◌<◌, ◌||◌, ◌&&◌, not, bytes_eq, ℕ, List, length, take, drop, slice_get, Some, IfOk, OnOk, if◌then◌else◌};
+ghost use Rattle.std.specs.Prelude.{◌≡◌, ◌≤◌, slice_set, ◌++◌, [], ◌∷◌, ◌<◌};
+ghost use Rattle.std.specs.Prelude.{◌||◌, ◌&&◌, not, bytes_eq, ℕ, List, length, take, drop};
+ghost use Rattle.std.specs.Prelude.{slice_get, Some, IfOk, OnOk, if◌then◌else◌};
 ghost use Rattle.std.specs.List.{position, position_from};
 ghost use Rattle.sx_lines.specs.declared.events.Built.TheVariants as event;
 ghost use Rattle.sx_lines.specs.declared.events.Pair.{Pair as Printed};
@@ -8,7 +10,8 @@ ghost use Rattle.sx_build.specs.Content as content;
 ghost use Rattle.sx_build.specs.FixUp as fix;
 ghost use Rattle.sx_build.specs.Build as spec;
 ghost use Rattle.sx_build.specs.InForce.{in_force};
-ghost use Rattle.sx_build.specs.Kept.{with_one, fixed_at, fixed_anew, fixed_pairs, attributes_with, names_of, name_prefixes, plain_name, plain_names};
+ghost use Rattle.sx_build.specs.Kept.{with_one, fixed_at, fixed_anew, fixed_pairs, attributes_with, names_of};
+ghost use Rattle.sx_build.specs.Kept.{name_prefixes, plain_name, plain_names};
 
 use crate::bindings::{Binding, binds, declares, has_binding};
 use crate::names::{Name, declaration_name, local_at, numbered_prefix, prefixed, uri_at};
@@ -79,7 +82,8 @@ fn pair_place(pairs: &[Pair], from: usize, name: &str) -> Option<usize>
 
 // A copy of the value of the pair at a place.
 fn value_at(alloc: Global, pairs: &[Pair], at: usize) -> Result<Chars, AllocError>
-    ensures { IfOk result (λ value. (p : Printed) → slice_get pairs.now at ≡ Some p → value ≡ p.value) }
+    ensures { IfOk result (λ value. (p : Printed) → slice_get pairs.now at ≡ Some p
+        → value ≡ p.value) }
 {
     match pairs.get(at) {
         Some(pair) => Chars::copy(alloc, pair.value.as_str()),
@@ -122,7 +126,8 @@ impl Withheld {
         names: &Names,
         outer: &[Binding],
     ) -> Result<Withheld, AllocError>
-        ensures { IfOk result (λ start. Holds (in_force outer.now) (record { name = named.name_at names.now label; attributes = [] }) start) }
+        ensures { IfOk result (λ start. Holds (in_force outer.now)
+            (record { name = named.name_at names.now label; attributes = [] }) start) }
     {
         let uri = uri_at(names, label.number);
         let name = prefixed(alloc, label.prefix.as_str(), local_at(names, label.number))?;
@@ -167,9 +172,12 @@ impl Withheld {
 
     // A binding is declared behind the others.
     fn declare(&mut self, alloc: Global, binding: Binding) -> Result<(), AllocError>
-        ensures declared { OnOk result (self.new.declared.items ≡ self.old.declared.items ++ binding ∷ []) }
-        ensures pairs { OnOk result ((tail : List Printed) → self.old.pairs.items ≡ spec.declaration_pairs self.old.declared.items ++ tail
-            → self.new.pairs.items ≡ spec.declaration_pairs (self.old.declared.items ++ binding ∷ []) ++ tail) }
+        ensures declared { OnOk result (self.new.declared.items
+            ≡ self.old.declared.items ++ binding ∷ []) }
+        ensures pairs { OnOk result ((tail : List Printed)
+            → self.old.pairs.items ≡ spec.declaration_pairs self.old.declared.items ++ tail
+            → self.new.pairs.items
+            ≡ spec.declaration_pairs (self.old.declared.items ++ binding ∷ []) ++ tail) }
         ensures kept { self.new ≡ record self.old { declared = self.new.declared; pairs = self.new.pairs } }
     {
         let at = self.declared.len().min(self.pairs.len());
@@ -182,7 +190,8 @@ impl Withheld {
 
     // A pair goes behind the others.
     fn put(&mut self, name: Chars, value: Chars) -> Result<(), AllocError>
-        ensures pairs { OnOk result (self.new.pairs.items ≡ self.old.pairs.items ++ record { name = name; value = value } ∷ []) }
+        ensures pairs { OnOk result (self.new.pairs.items
+            ≡ self.old.pairs.items ++ record { name = name; value = value } ∷ []) }
         ensures kept { self.new ≡ record self.old { pairs = self.new.pairs } }
     {
         self.pairs.push(Pair { name, value })?;
@@ -192,7 +201,8 @@ impl Withheld {
     // The value of the pair at a place is this one.
     fn set_value(&mut self, at: usize, value: Chars)
         ensures pairs { (p : Printed) → slice_get self.old.pairs.items at ≡ Some p
-            → self.new.pairs.items ≡ slice_set self.old.pairs.items at (record { name = p.name; value = value }) }
+            → self.new.pairs.items
+            ≡ slice_set self.old.pairs.items at (record { name = p.name; value = value }) }
         ensures kept { self.new ≡ record self.old { pairs = self.new.pairs } }
     {
         if at < self.pairs.len() {
@@ -203,7 +213,9 @@ impl Withheld {
     // Whether the element has a prefix, or one of so many attributes has it.
     fn uses(&self, count: usize, prefix: &str) -> bool
         requires { count ≤ length self.now.names.items }
-        ensures { result ≡ fix.is_one_of (self.now.prefix ∷ name_prefixes (take count self.now.names.items)) prefix.now }
+        ensures { result
+            ≡ fix.is_one_of (self.now.prefix ∷ name_prefixes (take count self.now.names.items))
+            prefix.now }
     {
         self.prefix.as_str() == prefix || have_prefix(&self.names[..count], prefix)
     }
@@ -211,21 +223,27 @@ impl Withheld {
     // Whether an attribute behind so many others cannot have a prefix declared: it is empty or used.
     fn is_in_use(&self, count: usize, prefix: &str) -> bool
         requires { count ≤ length self.now.names.items }
-        ensures { result ≡ fix.is_in_use (self.now.prefix ∷ name_prefixes (take count self.now.names.items)) prefix.now }
+        ensures { result
+            ≡ fix.is_in_use (self.now.prefix ∷ name_prefixes (take count self.now.names.items))
+            prefix.now }
     {
         prefix.is_empty() || self.uses(count, prefix)
     }
 
     // Whether a prefix is bound, or the element or one of its attributes has it.
     fn is_taken(&self, outer: &[Binding], prefix: &str) -> bool
-        ensures { result ≡ fix.is_one_of (fix.prefixes (self.now.declared.items ++ in_force outer.now) ++ self.now.prefix ∷ name_prefixes self.now.names.items) prefix.now }
+        ensures { result
+            ≡ fix.is_one_of (fix.prefixes (self.now.declared.items ++ in_force outer.now)
+            ++ self.now.prefix ∷ name_prefixes self.now.names.items) prefix.now }
     {
         has_binding(&self.declared, outer, prefix) || self.uses(self.names.len(), prefix)
     }
 
     // The first of `ns0`, `ns1` and so on that is not taken.
     fn free_prefix(&self, alloc: Global, outer: &[Binding]) -> Result<Chars, AllocError>
-        ensures { IfOk result (λ prefix. prefix ≡ fix.free_prefix (fix.prefixes (self.now.declared.items ++ in_force outer.now) ++ self.now.prefix ∷ name_prefixes self.now.names.items)) }
+        ensures { IfOk result (λ prefix. prefix
+            ≡ fix.free_prefix (fix.prefixes (self.now.declared.items ++ in_force outer.now)
+            ++ self.now.prefix ∷ name_prefixes self.now.names.items)) }
     {
         // As many are tried as can be taken: those that are bound, two at first, and those of the element and its attributes.
         let own = self.declared.as_slice();
@@ -248,9 +266,12 @@ impl Withheld {
         outer: &[Binding],
     ) -> Result<Binding, AllocError>
         requires { at < length self.now.names.items }
-        ensures { IfOk result (λ binding. (name : named.Name) → slice_get self.now.names.items at ≡ Some name → binding ≡ fix.bind
+        ensures { IfOk result (λ binding. (name : named.Name)
+            → slice_get self.now.names.items at ≡ Some name
+            → binding ≡ fix.bind
             (if fix.is_in_use (self.now.prefix ∷ name_prefixes (take at self.now.names.items)) name.prefix
-            then fix.free_prefix (fix.prefixes (self.now.declared.items ++ in_force outer.now) ++ self.now.prefix ∷ name_prefixes self.now.names.items)
+            then fix.free_prefix (fix.prefixes (self.now.declared.items ++ in_force outer.now)
+            ++ self.now.prefix ∷ name_prefixes self.now.names.items)
             else name.prefix) name.uri) }
     {
         let name = &self.names[at];
@@ -270,11 +291,18 @@ impl Withheld {
         outer: &[Binding],
     ) -> Result<(), AllocError>
         requires { at < length self.old.names.items }
-        ensures declared { OnOk result ((name : named.Name) → slice_get self.old.names.items at ≡ Some name
-            → self.new.declared.items ≡ (fixed_at (in_force outer.now) self.old.prefix self.old.names.items self.old.declared.items at (record { name = name; value = value })).declared) }
-        ensures pairs { OnOk result ((name : named.Name) (tail : List Printed) → slice_get self.old.names.items at ≡ Some name → self.old.pairs.items ≡ spec.declaration_pairs self.old.declared.items ++ tail
-            → let f = fixed_at (in_force outer.now) self.old.prefix self.old.names.items self.old.declared.items at (record { name = name; value = value }) in
-            self.new.pairs.items ≡ spec.declaration_pairs f.declared ++ (tail ++ spec.attribute_pairs f.attributes)) }
+        ensures declared { OnOk result ((name : named.Name)
+            → slice_get self.old.names.items at ≡ Some name
+            → self.new.declared.items
+            ≡ (fixed_at (in_force outer.now) self.old.prefix self.old.names.items self.old.declared.items at
+            (record { name = name; value = value })).declared) }
+        ensures pairs { OnOk result ((name : named.Name) (tail : List Printed)
+            → slice_get self.old.names.items at ≡ Some name
+            → self.old.pairs.items ≡ spec.declaration_pairs self.old.declared.items ++ tail
+            → let f = fixed_at (in_force outer.now) self.old.prefix self.old.names.items
+            self.old.declared.items at (record { name = name; value = value }) in
+            self.new.pairs.items
+            ≡ spec.declaration_pairs f.declared ++ (tail ++ spec.attribute_pairs f.attributes)) }
         ensures kept { self.new ≡ record self.old { declared = self.new.declared; pairs = self.new.pairs } }
     {
         if is_bound(&self.declared, outer, &self.names[at]) {
@@ -289,10 +317,14 @@ impl Withheld {
 
     // All attributes are fixed anew, with the values that they have.
     fn fix_anew(&mut self, alloc: Global, outer: &[Binding]) -> Result<(), AllocError>
-        ensures fixed { OnOk result (let attributes = attributes_with self.old.names.items (drop (length self.old.declared.items) self.old.pairs.items) in
+        ensures fixed { OnOk result
+            (let attributes = attributes_with self.old.names.items
+            (drop (length self.old.declared.items) self.old.pairs.items) in
             let own = take self.old.own self.old.declared.items in
             let f = fixed_anew (in_force outer.now) self.old.prefix self.old.names.items own attributes in
-            take self.old.own self.old.pairs.items ≡ spec.declaration_pairs own → length self.old.names.items ≤ length (drop (length self.old.declared.items) self.old.pairs.items)
+            take self.old.own self.old.pairs.items ≡ spec.declaration_pairs own
+            → length self.old.names.items ≤ length
+            (drop (length self.old.declared.items) self.old.pairs.items)
             → (self.new.declared.items ≡ f.declared) × (self.new.pairs.items ≡ fixed_pairs f)) }
         ensures kept { self.new ≡ record self.old { declared = self.new.declared; pairs = self.new.pairs } }
     {
@@ -326,8 +358,10 @@ impl Withheld {
         outer: &[Binding],
     ) -> Result<(), AllocError>
         requires { at < length self.old.names.items }
-        ensures { OnOk result ((h : content.Held) → Holds (in_force outer.now) h self.old → self.old.names.items ≡ names_of h.attributes
-            → content.with_attribute h.attributes (record { name = name; value = value }) ≡ slice_set h.attributes at (record { name = name; value = value })
+        ensures { OnOk result ((h : content.Held) → Holds (in_force outer.now) h self.old
+            → self.old.names.items ≡ names_of h.attributes
+            → content.with_attribute h.attributes (record { name = name; value = value })
+            ≡ slice_set h.attributes at (record { name = name; value = value })
             → Holds (in_force outer.now) (with_one h (record { name = name; value = value })) self.new) }
     {
         let place = self.declared.len() + at;
@@ -344,8 +378,10 @@ impl Withheld {
         value: Chars,
         outer: &[Binding],
     ) -> Result<(), AllocError>
-        ensures { OnOk result ((h : content.Held) → Holds (in_force outer.now) h self.old → self.old.names.items ≡ names_of h.attributes
-            → content.with_attribute h.attributes (record { name = name; value = value }) ≡ h.attributes ++ record { name = name; value = value } ∷ []
+        ensures { OnOk result ((h : content.Held) → Holds (in_force outer.now) h self.old
+            → self.old.names.items ≡ names_of h.attributes
+            → content.with_attribute h.attributes (record { name = name; value = value })
+            ≡ h.attributes ++ record { name = name; value = value } ∷ []
             → Holds (in_force outer.now) (with_one h (record { name = name; value = value })) self.new) }
     {
         let given = self.was_given(name.prefix());
@@ -367,7 +403,8 @@ impl Withheld {
         value: Chars,
         outer: &[Binding],
     ) -> Result<(), AllocError>
-        ensures { OnOk result ((h : content.Held) → Holds (in_force outer.now) h self.old → self.old.names.items ≡ names_of h.attributes
+        ensures { OnOk result ((h : content.Held) → Holds (in_force outer.now) h self.old
+            → self.old.names.items ≡ names_of h.attributes
             → Holds (in_force outer.now) (with_one h (record { name = name; value = value })) self.new) }
     {
         match place_of(&self.names, &name) {
@@ -378,8 +415,10 @@ impl Withheld {
 
     // The names of the attributes are kept from now on.
     fn keep_names(&mut self, alloc: Global) -> Result<(), AllocError>
-        ensures holds { OnOk result ((bound : List fix.Binding) (h : content.Held) → Holds bound h self.old → Holds bound h self.new) }
-        ensures names { OnOk result ((bound : List fix.Binding) (h : content.Held) → Holds bound h self.old → self.new.names.items ≡ names_of h.attributes) }
+        ensures holds { OnOk result ((bound : List fix.Binding) (h : content.Held) → Holds bound h self.old
+            → Holds bound h self.new) }
+        ensures names { OnOk result ((bound : List fix.Binding) (h : content.Held) → Holds bound h self.old
+            → self.new.names.items ≡ names_of h.attributes) }
     {
         if self.names.is_empty() {
             self.names = names_from(alloc, &self.pairs, self.declared.len())?;
@@ -389,7 +428,8 @@ impl Withheld {
 
     // An attribute more without a prefix in no namespace, where no other kinds have come.
     fn add_plain(&mut self, alloc: Global, local: &str, value: Chars) -> Result<(), AllocError>
-        ensures { OnOk result ((bound : List fix.Binding) (h : content.Held) → Holds bound h self.old → self.old.names.items ≡ []
+        ensures { OnOk result ((bound : List fix.Binding) (h : content.Held) → Holds bound h self.old
+            → self.old.names.items ≡ []
             → Holds bound (with_one h (record { name = plain_name local.now; value = value })) self.new) }
     {
         match pair_place(&self.pairs, self.declared.len(), local) {

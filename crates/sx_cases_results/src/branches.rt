@@ -139,7 +139,8 @@ impl Growing {
 
     // Whether an event may come next.
     fn allows(&self, event: &Event) -> bool
-        ensures follows { result ≡ true → MayFollow (tree_events self.now.tree.events) (tree_event event.now) }
+        ensures follows { result ≡ true
+            → MayFollow (tree_events self.now.tree.events) (tree_event event.now) }
         ensures room { result ≡ true → self.now.elements < 2 ^ 64 - 1 }
     {
         if !self.is_open || self.elements == u64::MAX {

@@ -67,7 +67,9 @@ fn content_place(bytes: &[u8]) -> Option<usize>
 
 /// What stands in front of the first colon and behind it.
 fn split_at_colon(text: &str) -> Option<(&str, &str)>
-    ensures { MatchOption result (spec.behind 58 text.now ≡ None) (λ parts. (spec.behind 58 text.now ≡ Some parts.1.now) × (parts.0.now ≡ spec.before 58 text.now)) }
+    ensures { MatchOption result (spec.behind 58 text.now
+        ≡ None) (λ parts. (spec.behind 58 text.now ≡ Some parts.1.now)
+        × (parts.0.now ≡ spec.before 58 text.now)) }
 {
     match colon_place(text.as_bytes()) {
         None => None,
@@ -97,7 +99,9 @@ fn without_leading_space(text: &str) -> &str
 
 /// Whether the parts round a colon are names, or the text is where there is none.
 fn are_names(parts: Option<(&str, &str)>, text: &str) -> bool
-    requires { MatchOption parts (spec.behind 58 text.now ≡ None) (λ parts. (spec.behind 58 text.now ≡ Some parts.1.now) × (parts.0.now ≡ spec.before 58 text.now)) }
+    requires { MatchOption parts (spec.behind 58 text.now
+        ≡ None) (λ parts. (spec.behind 58 text.now ≡ Some parts.1.now)
+        × (parts.0.now ≡ spec.before 58 text.now)) }
     ensures { result ≡ spec.is_qname text.now }
 {
     match parts {

@@ -27,10 +27,13 @@ pub struct CallHistory {
 }
 
 impl CallHistory {
-    ghost use Rattle.std.specs.Prelude.{◌≡◌, ℕ, ◌+◌, ◌-◌, ◌^◌, ◌<◌, ◌≤◌, ◌≢◌, [], ◌∷◌, ◌++◌, IsTrue, IfOk, IfSome, length, take, slice_index, slice_index_or, slice_set, is_some};
+    ghost use Rattle.std.specs.Prelude.{◌≡◌, ℕ, ◌+◌, ◌-◌, ◌^◌, ◌<◌, ◌≤◌};
+    ghost use Rattle.std.specs.Prelude.{◌≢◌, [], ◌∷◌, ◌++◌, IsTrue, IfOk, IfSome, length};
+    ghost use Rattle.std.specs.Prelude.{take, slice_index, slice_index_or, slice_set, is_some};
     ghost use Rattle.sx_desk.specs.Pieces.{IsPiece, least_of};
     ghost use Rattle.sx_desk.specs.Opened.{names_of, places_of, taken_of, marks_of};
-    ghost use Rattle.sx_desk.specs.History.{tells, opened_names, asked_names, written_to, source_of, KeepsFiles, KeepsOutputs};
+    ghost use Rattle.sx_desk.specs.History.{tells, opened_names, asked_names, written_to, source_of};
+    ghost use Rattle.sx_desk.specs.History.{KeepsFiles, KeepsOutputs};
 
     /// No calls yet, with room for the records of 66 opened files.
     pub fn new(alloc: Global) -> Result<CallHistory, AllocError>
@@ -76,7 +79,8 @@ impl CallHistory {
     pub fn marks(&self, file: u32) -> Option<&Marks>
         requires { file < self.now.opened }
         ensures known { is_some result ≡ tells self.now }
-        ensures marks { IfSome result (λ marks. marks.now ≡ slice_index_or (marks_of self.now.files.items) file []) }
+        ensures marks { IfSome result (λ marks. marks.now
+            ≡ slice_index_or (marks_of self.now.files.items) file []) }
     {
         if !self.tells() {
             return None;
@@ -87,7 +91,8 @@ impl CallHistory {
     /// Records that a name was asked for.
     pub fn ask(&mut self, name: &str)
         ensures known { IsTrue (tells self.new) → IsTrue (tells self.old) }
-        ensures asked { IsTrue (tells self.new) → asked_names self.new ≡ asked_names self.old ++ name.now ∷ [] }
+        ensures asked { IsTrue (tells self.new)
+            → asked_names self.new ≡ asked_names self.old ++ name.now ∷ [] }
         ensures files { KeepsFiles self.old self.new }
         ensures outputs { KeepsOutputs self.old self.new }
     {
@@ -100,10 +105,14 @@ impl CallHistory {
         ensures number { result ≡ self.old.opened }
         ensures opened { self.new.opened ≡ self.old.opened + 1 }
         ensures known { IsTrue (tells self.new) → IsTrue (tells self.old) }
-        ensures names { IsTrue (tells self.new) → names_of self.new.files.items ≡ names_of self.old.files.items ++ name.now ∷ [] }
-        ensures taken { IsTrue (tells self.new) → taken_of self.new.files.items ≡ taken_of self.old.files.items ++ 0 ∷ [] }
-        ensures marks { IsTrue (tells self.new) → marks_of self.new.files.items ≡ marks_of self.old.files.items ++ [] ∷ [] }
-        ensures places { self.old.opened < 66 → places_of self.new.files.items ≡ places_of self.old.files.items ++ place ∷ [] }
+        ensures names { IsTrue (tells self.new)
+            → names_of self.new.files.items ≡ names_of self.old.files.items ++ name.now ∷ [] }
+        ensures taken { IsTrue (tells self.new)
+            → taken_of self.new.files.items ≡ taken_of self.old.files.items ++ 0 ∷ [] }
+        ensures marks { IsTrue (tells self.new)
+            → marks_of self.new.files.items ≡ marks_of self.old.files.items ++ [] ∷ [] }
+        ensures places { self.old.opened < 66
+            → places_of self.new.files.items ≡ places_of self.old.files.items ++ place ∷ [] }
         ensures asked { asked_names self.new ≡ asked_names self.old }
         ensures outputs { KeepsOutputs self.old self.new }
     {
@@ -122,8 +131,10 @@ impl CallHistory {
         ensures names { names_of self.new.files.items ≡ names_of self.old.files.items }
         ensures places { places_of self.new.files.items ≡ places_of self.old.files.items }
         ensures taken { taken_of self.new.files.items ≡ taken_of self.old.files.items }
-        ensures marks { IsTrue (tells self.new) → marks_of self.new.files.items ≡ slice_set (marks_of self.old.files.items) file
-            (slice_index_or (marks_of self.old.files.items) file [] ++ (slice_index (taken_of self.old.files.items) file, length self.old.result.items) ∷ []) }
+        ensures marks { IsTrue (tells self.new)
+            → marks_of self.new.files.items ≡ slice_set (marks_of self.old.files.items) file
+            (slice_index_or (marks_of self.old.files.items) file []
+            ++ (slice_index (taken_of self.old.files.items) file, length self.old.result.items) ∷ []) }
         ensures asked { asked_names self.new ≡ asked_names self.old }
         ensures outputs { KeepsOutputs self.old self.new }
     {
@@ -137,14 +148,17 @@ impl CallHistory {
     pub fn take_next(&mut self, files: &[MemFile], file: u32, most: u32, buf: &mut [u8]) -> usize
         requires { 0 < length buf.old }
         ensures at_most { result ≤ length buf.new }
-        ensures piece { IsPiece (source_of files.now self.old file) (slice_index (taken_of self.old.files.items) file) buf.new result }
+        ensures piece { IsPiece (source_of files.now self.old file)
+            (slice_index (taken_of self.old.files.items) file) buf.new result }
         ensures count { result ≡ least_of most (length buf.new)
             (length (source_of files.now self.old file) - slice_index (taken_of self.old.files.items) file) }
         ensures opened { self.new.opened ≡ self.old.opened }
         ensures known { tells self.new ≡ tells self.old }
         ensures names { names_of self.new.files.items ≡ names_of self.old.files.items }
         ensures places { places_of self.new.files.items ≡ places_of self.old.files.items }
-        ensures taken { taken_of self.new.files.items ≡ slice_set (taken_of self.old.files.items) file (slice_index (taken_of self.old.files.items) file + result) }
+        ensures taken { taken_of self.new.files.items
+            ≡ slice_set (taken_of self.old.files.items) file
+            (slice_index (taken_of self.old.files.items) file + result) }
         ensures marks { marks_of self.new.files.items ≡ marks_of self.old.files.items }
         ensures asked { asked_names self.new ≡ asked_names self.old }
         ensures outputs { KeepsOutputs self.old self.new }
@@ -177,7 +191,8 @@ impl CallHistory {
         ensures at_most { result ≤ length piece.now }
         ensures count { result ≡ least_of most (length piece.now) (length piece.now) }
         ensures known { IsTrue (tells self.new) → IsTrue (tells self.old) }
-        ensures appended { IsTrue (tells self.new) → written_to self.new out ≡ written_to self.old out ++ take result piece.now }
+        ensures appended { IsTrue (tells self.new)
+            → written_to self.new out ≡ written_to self.old out ++ take result piece.now }
         ensures others { (o : Out) → o ≢ out → written_to self.new o ≡ written_to self.old o }
         ensures files { KeepsFiles self.old self.new }
         ensures asked { asked_names self.new ≡ asked_names self.old }

@@ -1,10 +1,12 @@
 // A desk in memory, which fails where it is told to.
-ghost use Rattle.std.specs.Prelude.{◌≡◌, ◌<◌, ◌-◌, ◌^◌, ◌||◌, [], length, is_some, is_none, is_err, IfOk, IfSome};
+ghost use Rattle.std.specs.Prelude.{◌≡◌, ◌<◌, ◌-◌, ◌^◌, ◌||◌, [], length, is_some};
+ghost use Rattle.std.specs.Prelude.{is_none, is_err, IfOk, IfSome};
 ghost use Rattle.sx_desk.specs.Desk.{Opens, Reads, Writes};
 ghost use Rattle.sx_desk.specs.Pieces.{MovesMost, least_of};
 ghost use Rattle.sx_desk.specs.History.{IsUnused};
 ghost use Rattle.sx_desk.specs.Files.{content_in};
-ghost use Rattle.sx_desk.specs.Mem.{mem_seen, mem_served, no_calls, calls_of, one_more, is_listed, with_fault, SameSettings};
+ghost use Rattle.sx_desk.specs.Mem.{mem_seen, mem_served, no_calls, calls_of, one_more, is_listed};
+ghost use Rattle.sx_desk.specs.Mem.{with_fault, SameSettings};
 
 use crate::files::place_of;
 use crate::history::CallHistory;
@@ -100,10 +102,12 @@ impl Desk for MemDesk {
         requires { length (mem_seen self.old).opened < 2 ^ 32 - 1 }
         ensures desk { Opens name.now (mem_seen self.old) (mem_seen self.new) result }
         ensures settings { SameSettings self.old self.new }
-        ensures calls { calls_of self.new ≡ record (calls_of self.old) { opens = one_more (calls_of self.old).opens } }
+        ensures calls { calls_of self.new
+            ≡ record (calls_of self.old) { opens = one_more (calls_of self.old).opens } }
         ensures fails { is_err result ≡ (is_listed self.old.open_fails.items (calls_of self.old).opens
             || is_none (content_in self.old.files name.now)) }
-        ensures faults { (mem_seen self.new).open_faults ≡ with_fault (mem_seen self.old).open_faults result }
+        ensures faults { (mem_seen self.new).open_faults
+            ≡ with_fault (mem_seen self.old).open_faults result }
     {
         self.history.ask(name);
         self.opens = self.opens.saturating_add(1);
@@ -121,11 +125,13 @@ impl Desk for MemDesk {
         requires given { file < length (mem_seen self.old).opened }
         ensures desk { Reads file (mem_seen self.old) (mem_seen self.new) buf.new result }
         ensures settings { SameSettings self.old self.new }
-        ensures calls { calls_of self.new ≡ record (calls_of self.old) { reads = one_more (calls_of self.old).reads } }
+        ensures calls { calls_of self.new
+            ≡ record (calls_of self.old) { reads = one_more (calls_of self.old).reads } }
         ensures fails { is_err result ≡ is_listed self.old.read_fails.items (calls_of self.old).reads }
         ensures moves { IfOk result (MovesMost (mem_served self.new file) ((mem_seen self.old).taken file)
             self.old.read_piece buf.new) }
-        ensures faults { (mem_seen self.new).read_faults ≡ with_fault (mem_seen self.old).read_faults result }
+        ensures faults { (mem_seen self.new).read_faults
+            ≡ with_fault (mem_seen self.old).read_faults result }
     {
         self.history.mark(file);
         self.reads = self.reads.saturating_add(1);
@@ -141,10 +147,13 @@ impl Desk for MemDesk {
         requires { 0 < length piece.now }
         ensures desk { Writes out piece.now (mem_seen self.old) (mem_seen self.new) result }
         ensures settings { SameSettings self.old self.new }
-        ensures calls { calls_of self.new ≡ record (calls_of self.old) { writes = one_more (calls_of self.old).writes } }
+        ensures calls { calls_of self.new
+            ≡ record (calls_of self.old) { writes = one_more (calls_of self.old).writes } }
         ensures fails { is_err result ≡ is_listed self.old.write_fails.items (calls_of self.old).writes }
-        ensures moves { IfOk result (λ n. n ≡ least_of self.old.write_piece (length piece.now) (length piece.now)) }
-        ensures faults { (mem_seen self.new).write_faults out ≡ with_fault ((mem_seen self.old).write_faults out) result }
+        ensures moves { IfOk result (λ n. n
+            ≡ least_of self.old.write_piece (length piece.now) (length piece.now)) }
+        ensures faults { (mem_seen self.new).write_faults out
+            ≡ with_fault ((mem_seen self.old).write_faults out) result }
     {
         self.writes = self.writes.saturating_add(1);
         if self.write_fails.contains(&self.writes) {

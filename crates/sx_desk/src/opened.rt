@@ -1,5 +1,7 @@
 // The files that a desk in memory has opened.
-ghost use Rattle.std.specs.Prelude.{◌≡◌, ◌+◌, ◌^◌, ◌<◌, ◌≤◌, [], ◌∷◌, ◌++◌, IsOk, OnOk, None, length, string_bytes, slice_index, slice_index_or, slice_set, slice_get, vec_len, vec_capacity};
+ghost use Rattle.std.specs.Prelude.{◌≡◌, ◌+◌, ◌^◌, ◌<◌, ◌≤◌, [], ◌∷◌, ◌++◌};
+ghost use Rattle.std.specs.Prelude.{IsOk, OnOk, None, length, string_bytes, slice_index, slice_index_or};
+ghost use Rattle.std.specs.Prelude.{slice_set, slice_get, vec_len, vec_capacity};
 ghost use Rattle.sx_desk.specs.Opened.{names_of, places_of, taken_of, marks_of};
 
 use sqlite_items::Items;
@@ -29,7 +31,8 @@ pub fn add_file(
     ensures names { OnOk result (names_of files.new.items ≡ names_of files.old.items ++ name.now ∷ []) }
     ensures taken { OnOk result (taken_of files.new.items ≡ taken_of files.old.items ++ 0 ∷ []) }
     ensures marks { OnOk result (marks_of files.new.items ≡ marks_of files.old.items ++ [] ∷ []) }
-    ensures places { vec_len files.old < vec_capacity files.old → places_of files.new.items ≡ places_of files.old.items ++ place ∷ [] }
+    ensures places { vec_len files.old < vec_capacity files.old
+        → places_of files.new.items ≡ places_of files.old.items ++ place ∷ [] }
     ensures len { vec_len files.old < vec_capacity files.old → vec_len files.new ≡ vec_len files.old + 1 }
     ensures room { vec_capacity files.old ≤ vec_capacity files.new }
 {
@@ -48,7 +51,8 @@ fn push_file(
     place: Option<usize>,
     marks: Marks,
 ) -> Result<(), AllocError>
-    ensures added { OnOk result (files.new.items ≡ files.old.items ++ record { name = name; place = place; taken = 0; marks = marks } ∷ []) }
+    ensures added { OnOk result (files.new.items
+        ≡ files.old.items ++ record { name = name; place = place; taken = 0; marks = marks } ∷ []) }
     ensures len { OnOk result (vec_len files.new ≡ vec_len files.old + 1) }
     ensures succeeds { vec_len files.old < vec_capacity files.old → IsOk result }
     ensures room { vec_capacity files.old ≤ vec_capacity files.new }
@@ -103,7 +107,8 @@ pub fn add_mark(files: &mut Vec<OpenedFile>, at: usize, written: usize) -> Resul
     ensures places { places_of files.new.items ≡ places_of files.old.items }
     ensures taken { taken_of files.new.items ≡ taken_of files.old.items }
     ensures marks { OnOk result (marks_of files.new.items ≡ slice_set (marks_of files.old.items) at
-        (slice_index_or (marks_of files.old.items) at [] ++ (slice_index (taken_of files.old.items) at, written) ∷ [])) }
+        (slice_index_or (marks_of files.old.items) at []
+        ++ (slice_index (taken_of files.old.items) at, written) ∷ [])) }
     ensures len { vec_len files.new ≡ vec_len files.old }
     ensures room { vec_capacity files.old ≤ vec_capacity files.new }
 {
@@ -117,7 +122,8 @@ pub fn take(files: &mut Vec<OpenedFile>, at: usize, count: usize)
     ensures names { names_of files.new.items ≡ names_of files.old.items }
     ensures places { places_of files.new.items ≡ places_of files.old.items }
     ensures marks { marks_of files.new.items ≡ marks_of files.old.items }
-    ensures taken { taken_of files.new.items ≡ slice_set (taken_of files.old.items) at (slice_index (taken_of files.old.items) at + count) }
+    ensures taken { taken_of files.new.items
+        ≡ slice_set (taken_of files.old.items) at (slice_index (taken_of files.old.items) at + count) }
     ensures len { vec_len files.new ≡ vec_len files.old }
     ensures room { vec_capacity files.old ≤ vec_capacity files.new }
 {

@@ -1,5 +1,6 @@
 // Bytes and names that a desk in memory hands out or keeps.
-ghost use Rattle.std.specs.Prelude.{◌≡◌, ◌+◌, ◌-◌, ◌^◌, ◌<◌, ◌≤◌, [], ◌∷◌, ◌++◌, OnOk, length, map, string_bytes};
+ghost use Rattle.std.specs.Prelude.{◌≡◌, ◌+◌, ◌-◌, ◌^◌, ◌<◌, ◌≤◌, [], ◌∷◌};
+ghost use Rattle.std.specs.Prelude.{◌++◌, OnOk, length, map, string_bytes};
 ghost use Rattle.sx_desk.specs.Pieces.{IsPiece, least_of};
 
 use std::alloc::{AllocError, Global};
@@ -23,7 +24,8 @@ pub fn copy_piece(bytes: &[u8], taken: usize, most: u32, buf: &mut [u8]) -> usiz
 
 /// Adds a name.
 pub fn keep_name(alloc: Global, names: &mut Vec<String>, name: &str) -> Result<(), AllocError>
-    ensures { OnOk result (map string_bytes names.new.items ≡ map string_bytes names.old.items ++ name.now ∷ []) }
+    ensures { OnOk result (map string_bytes names.new.items
+        ≡ map string_bytes names.old.items ++ name.now ∷ []) }
 {
     names.push(String::from_str(alloc, name)?)?;
     Ok(())

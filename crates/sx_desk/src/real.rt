@@ -1,5 +1,6 @@
 // The real outside. It tells nothing, and counts each failure.
-ghost use Rattle.std.specs.Prelude.{◌≡◌, ◌<◌, ◌≤◌, ◌-◌, ◌^◌, [], length, vec_len, vec_capacity, IfOk};
+ghost use Rattle.std.specs.Prelude.{◌≡◌, ◌<◌, ◌≤◌, ◌-◌, ◌^◌, [], length, vec_len};
+ghost use Rattle.std.specs.Prelude.{vec_capacity, IfOk};
 ghost use Rattle.sx_desk.specs.Desk.{untold, Opens, Reads, Writes};
 ghost use Rattle.sx_desk.specs.Real.{OpensOne, ReadsOne, WritesOne, text_of};
 
@@ -44,13 +45,15 @@ impl<'a, R: Files + Print + Eprint> RealDesk<'a, R> {
 }
 
 impl<'a, R: System> Desk for RealDesk<'a, R> {
-    ghost seen = { λ d. untold (vec_len d.files) d.open_faults d.read_faults d.result_faults d.diagnostic_faults };
+    ghost seen = { λ d. untold (vec_len d.files) d.open_faults d.read_faults d.result_faults
+        d.diagnostic_faults };
 
     fn open_file(&mut self, name: &str) -> Result<u32, Failed>
         requires { length (⟦<RealDesk<'a, R> as Desk>⟧.seen self.old).opened < 2 ^ 32 - 1 }
         ensures desk { Opens name.now (⟦<RealDesk<'a, R> as Desk>⟧.seen self.old)
             (⟦<RealDesk<'a, R> as Desk>⟧.seen self.new) result }
-        ensures answer { OpensOne (R.opens self.old.rt.now name.now) self.old.files.items self.new.files.items result }
+        ensures answer { OpensOne (R.opens self.old.rt.now name.now) self.old.files.items self.new.files.items
+            result }
     {
         let number = self.files.len();
         if number < MAX_FILES {
@@ -85,7 +88,8 @@ impl<'a, R: System> Desk for RealDesk<'a, R> {
         ensures desk { Writes out piece.now (⟦<RealDesk<'a, R> as Desk>⟧.seen self.old)
             (⟦<RealDesk<'a, R> as Desk>⟧.seen self.new) result }
         ensures files { self.new.files.items ≡ self.old.files.items }
-        ensures answer { WritesOne (R.writes self.old.rt.now) (R.prints self.old.rt.now) out piece.now result }
+        ensures answer { WritesOne (R.writes self.old.rt.now) (R.prints self.old.rt.now) out piece.now
+            result }
     {
         match out {
             Out::Result => {

@@ -1,5 +1,6 @@
 // A desk in memory that never fails.
-ghost use Rattle.std.specs.Prelude.{◌≡◌, ◌<◌, ◌-◌, ◌^◌, length, is_some, IsOk, IfOk, IfSome};
+ghost use Rattle.std.specs.Prelude.{◌≡◌, ◌<◌, ◌-◌, ◌^◌, length, is_some, IsOk, IfOk};
+ghost use Rattle.std.specs.Prelude.{IfSome};
 ghost use Rattle.sx_desk.specs.Desk.{Opens, Reads, Writes};
 ghost use Rattle.sx_desk.specs.Pieces.{MovesMost, least_of};
 ghost use Rattle.sx_desk.specs.History.{IsUnused};
@@ -84,7 +85,8 @@ impl Desk for SteadyDesk {
         ensures desk { Reads file (steady_seen self.old) (steady_seen self.new) buf.new result }
         ensures succeeds { IsOk result }
         ensures settings { SameFiles self.old self.new }
-        ensures moves { IfOk result (MovesMost (steady_served self.new file) ((steady_seen self.old).taken file)
+        ensures moves { IfOk result
+            (MovesMost (steady_served self.new file) ((steady_seen self.old).taken file)
             self.old.read_piece buf.new) }
     {
         self.history.mark(file);
@@ -97,7 +99,8 @@ impl Desk for SteadyDesk {
         ensures desk { Writes out piece.now (steady_seen self.old) (steady_seen self.new) result }
         ensures succeeds { IsOk result }
         ensures settings { SameFiles self.old self.new }
-        ensures moves { IfOk result (λ n. n ≡ least_of self.old.write_piece (length piece.now) (length piece.now)) }
+        ensures moves { IfOk result (λ n. n
+            ≡ least_of self.old.write_piece (length piece.now) (length piece.now)) }
     {
         Ok(self.history.write(out, piece, self.write_piece))
     }

@@ -50,7 +50,8 @@ impl<R: Files + Print + Eprint> System for R {
 
     ghost opens = { λ _ _ _. ⊤ };
 
-    ghost reads = { λ old new answer buf. ReadConsumes (R.File.Read.remaining old) (R.File.Read.remaining new)
+    ghost reads = { λ old new answer buf. ReadConsumes (R.File.Read.remaining old)
+        (R.File.Read.remaining new)
         answer buf };
 
     ghost writes = { λ _ _ _. ⊤ };

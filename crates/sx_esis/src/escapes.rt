@@ -1,5 +1,7 @@
 // The escapes of a text, which are replaced where they stand.
-ghost use Rattle.std.specs.Prelude.{◌≡◌, ◌<◌, ◌≤◌, ◌+◌, ◌-◌, ◌^◌, ◌++◌, [], ◌∷◌, true, false, not, min, length, take, drop, slice_index, Some, Ok, Err, IfOk, IfErr};
+ghost use Rattle.std.specs.Prelude.{◌≡◌, ◌<◌, ◌≤◌, ◌+◌, ◌-◌, ◌^◌, ◌++◌, []};
+ghost use Rattle.std.specs.Prelude.{◌∷◌, true, false, not, min, length, take, drop, slice_index, Some};
+ghost use Rattle.std.specs.Prelude.{Ok, Err, IfOk, IfErr};
 ghost use Rattle.std.specs.Char.{encode_utf8, len_utf8};
 ghost use Rattle.std.specs.List.{list_all, position, position_or_len};
 ghost use Rattle.sx_esis.specs.Escapes as spec;
@@ -25,7 +27,8 @@ struct Places {
 /// Replaces each escape by what it stands for. Gives how many bytes the text has, which then stand in front. After an
 /// `Err`, which says what is wrong with the first escape at fault, the bytes are any.
 pub(crate) fn unescape(bytes: &mut [u8]) -> Result<usize, LineWhich>
-    ensures ok { IfOk result (λ n. (n ≤ length bytes.old) × (spec.unescape bytes.old ≡ Ok (take n bytes.new))) }
+    ensures ok { IfOk result (λ n. (n ≤ length bytes.old)
+        × (spec.unescape bytes.old ≡ Ok (take n bytes.new))) }
     ensures err { IfErr result (λ w. spec.unescape bytes.old ≡ Err w) }
 {
     let plain = place_of(b'\\', bytes);
@@ -43,7 +46,8 @@ pub(crate) fn unescape(bytes: &mut [u8]) -> Result<usize, LineWhich>
 fn replace_escape(bytes: &mut [u8], places: Places) -> Result<Places, LineWhich>
     requires cut { IsCut bytes.old places.written places.read }
     requires more { places.read < length bytes.old }
-    ensures ok { IfOk result (λ p. IsCut bytes.new p.written p.read × (places.read < p.read) × (comes_to bytes.old places.written places.read ≡ comes_to bytes.new p.written p.read)) }
+    ensures ok { IfOk result (λ p. IsCut bytes.new p.written p.read × (places.read < p.read)
+        × (comes_to bytes.old places.written places.read ≡ comes_to bytes.new p.written p.read)) }
     ensures err { IfErr result (λ w. comes_to bytes.old places.written places.read ≡ Err w) }
 {
     let escape = read_escape(&bytes[places.read + 1..])?;
@@ -74,7 +78,8 @@ fn move_plain(bytes: &mut [u8], places: Places) -> Places
     requires within { places.read ≤ length bytes.old }
     ensures cut { IsCut bytes.new result.written result.read }
     ensures forward { places.read ≤ result.read }
-    ensures same { comes_to bytes.old places.written places.read ≡ comes_to bytes.new result.written result.read }
+    ensures same { comes_to bytes.old places.written places.read
+        ≡ comes_to bytes.new result.written result.read }
 {
     let count = place_of(b'\\', &bytes[places.read..]);
     bytes.copy_within(places.read..places.read + count, places.written);

@@ -1,5 +1,7 @@
 // The form of a line: the table of commands.
-ghost use Rattle.std.specs.Prelude.{◌≡◌, ℕ, ◌<◌, ◌≤◌, ◌+◌, ◌∷◌, true, false, bytes_eq, codes, length, drop, slice_index, List, Some, Ok, Err, Option, IsTrue, IfOk, IfErr, IfSome, MatchOption, if◌then◌else◌};
+ghost use Rattle.std.specs.Prelude.{◌≡◌, ℕ, ◌<◌, ◌≤◌, ◌+◌, ◌∷◌, true, false};
+ghost use Rattle.std.specs.Prelude.{bytes_eq, codes, length, drop, slice_index, List, Some, Ok, Err, Option};
+ghost use Rattle.std.specs.Prelude.{IsTrue, IfOk, IfErr, IfSome, MatchOption, if◌then◌else◌};
 ghost use Rattle.std.specs.Str.{IsCharBoundary};
 ghost use Rattle.sx_chars.specs.Names.{before_space, is_ncname};
 ghost use Rattle.sx_esis.specs.Forms as spec;
@@ -41,7 +43,9 @@ impl Form {
 
 /// The form of a line, or what is wrong with it apart from its escapes.
 pub(crate) fn form_of(line: &[u8]) -> Result<Form, LineWhich>
-    ensures ok { IfOk result (λ form. (lines.line_of line.now ≡ says_with form line.now (spec.text_start form)) × Fits form line.now) }
+    ensures ok { IfOk result (λ form. (lines.line_of line.now
+        ≡ says_with form line.now (spec.text_start form))
+        × Fits form line.now) }
     ensures err { IfErr result (λ w. lines.line_of line.now ≡ Err w) }
 {
     match line {
@@ -150,7 +154,8 @@ fn where_so(so: bool, form: Form) -> Result<Form, LineWhich>
 
 /// The form of an instruction by what stands behind `?`.
 fn instruction(text: &str) -> Result<Form, LineWhich>
-    ensures { result ≡ (if is_ncname (before_space text.now) then Ok Form.Pi else Err LineWhich.BadCommand) }
+    ensures { result
+        ≡ (if is_ncname (before_space text.now) then Ok Form.Pi else Err LineWhich.BadCommand) }
 {
     let (target, _) = split_instruction(text);
     where_so(is_ncname(target), Form::Pi)
@@ -158,7 +163,9 @@ fn instruction(text: &str) -> Result<Form, LineWhich>
 
 /// The form of an attribute by what stands behind `A`: a name, a space, and the rest.
 fn attribute(text: &str) -> Result<Form, LineWhich>
-    ensures ok { IfOk result (λ form. (lines.attribute text.now ≡ says_with form (65 ∷ text.now) (spec.text_start form)) × Fits form (65 ∷ text.now)) }
+    ensures ok { IfOk result (λ form. (lines.attribute text.now
+        ≡ says_with form (65 ∷ text.now) (spec.text_start form))
+        × Fits form (65 ∷ text.now)) }
     ensures err { IfErr result (λ w. lines.attribute text.now ≡ Err w) }
 {
     let name_length = place_of(b' ', text.as_bytes());
@@ -182,7 +189,8 @@ fn attribute(text: &str) -> Result<Form, LineWhich>
 fn value_place(rest: &str) -> Result<Option<usize>, LineWhich>
     ensures ok { IfOk result (λ place. MatchOption place (IsImplied rest.now) (HasValueAt rest.now)) }
     ensures boundary { IfOk result (λ place. IfSome place (IsCharBoundary rest.now)) }
-    ensures err { IfErr result (λ w. (name : List ℕ) → lines.attribute_with name (Some rest.now) ≡ Err w) }
+    ensures err { IfErr result (λ w. (name : List ℕ)
+        → lines.attribute_with name (Some rest.now) ≡ Err w) }
 {
     if is_implied(rest) {
         return Ok(None);

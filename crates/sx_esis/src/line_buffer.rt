@@ -1,5 +1,6 @@
 // The bytes that wait, and the line that was taken from their front.
-ghost use Rattle.std.specs.Prelude.{◌≡◌, ℕ, ◌+◌, ◌<◌, ◌≤◌, List, [], ◌++◌, length, take, drop, Ok, Err, IfOk, OnOk, OnErr, IfErr, MatchOption, IsTrue};
+ghost use Rattle.std.specs.Prelude.{◌≡◌, ℕ, ◌+◌, ◌<◌, ◌≤◌, List, [], ◌++◌, length};
+ghost use Rattle.std.specs.Prelude.{take, drop, Ok, Err, IfOk, OnOk, OnErr, IfErr, MatchOption, IsTrue};
 ghost use Rattle.std.specs.List.{list_all, slice_range};
 ghost use Rattle.sx_esis.specs.Escapes.{unescape};
 ghost use Rattle.sx_esis.specs.Inside.{IsFirstLine, is_inside};
@@ -57,7 +58,8 @@ impl LineBuffer {
     /// How long the first line is that waits, where its newline has come.
     pub(crate) fn find_line(&mut self) -> Option<usize>
         ensures rest { waiting self.new ≡ waiting self.old }
-        ensures found { MatchOption result (IsTrue (list_all is_inside (waiting self.old))) (IsFirstLine (waiting self.old)) }
+        ensures found { MatchOption result (IsTrue (list_all is_inside (waiting self.old)))
+            (IsFirstLine (waiting self.old)) }
     {
         match memchr(b'\n', &self.bytes[self.searched..]) {
             Some(place) => Some(self.searched - self.start + place),
@@ -138,7 +140,9 @@ impl LineBuffer {
 fn unescape_part(bytes: &mut Vec<u8>, start: usize, end: usize) -> Result<usize, LineWhich>
     requires order { start ≤ end }
     requires within { end ≤ length bytes.old.items }
-    ensures ok { IfOk result (λ stop. (start ≤ stop) × (stop ≤ end) × (unescape (slice_range bytes.old.items start end) ≡ Ok (slice_range bytes.new.items start stop))) }
+    ensures ok { IfOk result (λ stop. (start ≤ stop) × (stop ≤ end)
+        × (unescape (slice_range bytes.old.items start end)
+        ≡ Ok (slice_range bytes.new.items start stop))) }
     ensures err { IfErr result (λ w. unescape (slice_range bytes.old.items start end) ≡ Err w) }
     ensures front { take start bytes.new.items ≡ take start bytes.old.items }
     ensures rest { (n : ℕ) → end ≤ n → drop n bytes.new.items ≡ drop n bytes.old.items }

@@ -1,5 +1,7 @@
 // A reader of lines.
-ghost use Rattle.std.specs.Prelude.{◌≡◌, ℕ, ◌+◌, ◌-◌, ◌^◌, ◌<◌, min, Bool, true, false, List, [], ◌++◌, None, Ok, Err, IfOk, IfErr, OnOk, OnErr, length};
+ghost use Rattle.std.specs.Prelude.{◌≡◌, ℕ, ◌+◌, ◌-◌, ◌^◌, ◌<◌, min, Bool, true};
+ghost use Rattle.std.specs.Prelude.{false, List, [], ◌++◌, None, Ok, Err, IfOk, IfErr, OnOk, OnErr};
+ghost use Rattle.std.specs.Prelude.{length};
 ghost use Rattle.std.specs.Str.{IsUtf8};
 ghost use Rattle.sx_esis.specs.Forms.{Fits, says_in};
 ghost use Rattle.sx_esis.specs.Lines.{line_within};
@@ -77,7 +79,9 @@ fn view_of(form: Form, line: &[u8]) -> LineView<'_>
 
 /// Reads the line that was taken, and replaces its escapes.
 fn read_line(buffer: &mut LineBuffer, limit: u64) -> Result<Form, LineWhich>
-    ensures ok { IfOk result (λ form. (line_within limit (taken_line buffer.old) ≡ Ok (says_in form (taken_line buffer.new))) × Fits form (taken_line buffer.new)) }
+    ensures ok { IfOk result (λ form. (line_within limit (taken_line buffer.old)
+        ≡ Ok (says_in form (taken_line buffer.new)))
+        × Fits form (taken_line buffer.new)) }
     ensures err { IfErr result (λ w. line_within limit (taken_line buffer.old) ≡ Err w) }
     ensures rest { waiting buffer.new ≡ waiting buffer.old }
 {
@@ -115,8 +119,12 @@ impl LineReader {
     /// Takes the next bytes. After an `Err`, which says that memory ran out, nothing has changed.
     /// Where a fault was met they change nothing.
     pub fn feed(&mut self, piece: &[u8]) -> Result<(), AllocError>
-        ensures ok { (limit : ℕ) (bytes : List ℕ) (given : ℕ) → LinesStand self.old limit bytes false given → OnOk result (LinesStand self.new limit (bytes ++ piece.now) false given) }
-        ensures err { (limit : ℕ) (bytes : List ℕ) (ended : Bool) (given : ℕ) → LinesStand self.old limit bytes ended given → OnErr result (LinesStand self.new limit bytes ended given) }
+        ensures ok { (limit : ℕ) (bytes : List ℕ) (given : ℕ)
+            → LinesStand self.old limit bytes false given
+            → OnOk result (LinesStand self.new limit (bytes ++ piece.now) false given) }
+        ensures err { (limit : ℕ) (bytes : List ℕ) (ended : Bool) (given : ℕ)
+            → LinesStand self.old limit bytes ended given
+            → OnErr result (LinesStand self.new limit bytes ended given) }
     {
         if self.fault.is_some() {
             return Ok(());
@@ -126,14 +134,16 @@ impl LineReader {
 
     /// Says that there are no more bytes.
     pub fn finish(&mut self)
-        ensures { (limit : ℕ) (bytes : List ℕ) (ended : Bool) (given : ℕ) → LinesStand self.old limit bytes ended given → LinesStand self.new limit bytes true given }
+        ensures { (limit : ℕ) (bytes : List ℕ) (ended : Bool) (given : ℕ)
+            → LinesStand self.old limit bytes ended given → LinesStand self.new limit bytes true given }
     {
         self.ended = true;
     }
 
     /// The number of the last line given, counted from 1, and 0 before the first.
     pub fn line(&self) -> u64
-        ensures { (limit : ℕ) (bytes : List ℕ) (ended : Bool) (given : ℕ) → LinesStand self.now limit bytes ended given → length bytes < 2 ^ 62 → result ≡ given }
+        ensures { (limit : ℕ) (bytes : List ℕ) (ended : Bool) (given : ℕ)
+            → LinesStand self.now limit bytes ended given → length bytes < 2 ^ 62 → result ≡ given }
     {
         self.number
     }
@@ -141,7 +151,8 @@ impl LineReader {
     /// The next line. `None` says that no more lines have come so far. The first line that is longer
     /// than the limit or at fault in another way ends the lines, and from then on the answer stays that fault.
     pub fn next(&mut self) -> Option<Result<LineView<'_>, LineFault>>
-        ensures* { sem 𝓛 (follows_so the_row the_row self.entry.ghost_name none (λ _ _. ⊤) (λ new. Follows self.old result new)) }
+        ensures* { sem 𝓛 (follows_so the_row the_row self.entry.ghost_name none (λ _ _. ⊤)
+            (λ new. Follows self.old result new)) }
     {
         match self.advance() {
             None => None,
@@ -152,7 +163,9 @@ impl LineReader {
 
     /// Goes to the next line, which `view` then shows.
     fn advance(&mut self) -> Option<Result<(), LineFault>>
-        ensures gives { (limit : ℕ) (bytes : List ℕ) (ended : Bool) (given : ℕ) → LinesStand self.old limit bytes ended given → Advances limit bytes ended given self.new result }
+        ensures gives { (limit : ℕ) (bytes : List ℕ) (ended : Bool) (given : ℕ)
+            → LinesStand self.old limit bytes ended given
+            → Advances limit bytes ended given self.new result }
         ensures shown { IsLineGiven result → IsShown self.new }
         ensures progress { IsLineGiven result → unread self.new < unread self.old }
     {
@@ -165,7 +178,9 @@ impl LineReader {
     /// The same where no fault was met.
     fn go_on(&mut self) -> Option<Result<(), LineFault>>
         requires { self.old.fault ≡ None }
-        ensures gives { (limit : ℕ) (bytes : List ℕ) (ended : Bool) (given : ℕ) → LinesStand self.old limit bytes ended given → Advances limit bytes ended given self.new result }
+        ensures gives { (limit : ℕ) (bytes : List ℕ) (ended : Bool) (given : ℕ)
+            → LinesStand self.old limit bytes ended given
+            → Advances limit bytes ended given self.new result }
         ensures shown { IsLineGiven result → IsShown self.new }
         ensures progress { IsLineGiven result → unread self.new < unread self.old }
     {

@@ -1,5 +1,6 @@
 // The attribute lines that wait for the start of their element.
-ghost use Rattle.std.specs.Prelude.{◌≡◌, [], ◌∷◌, ◌++◌, ◌≤◌, ℕ, List, length, not, nat_lt, false, true, OnOk, IfOk};
+ghost use Rattle.std.specs.Prelude.{◌≡◌, [], ◌∷◌, ◌++◌, ◌≤◌, ℕ, List, length, not};
+ghost use Rattle.std.specs.Prelude.{nat_lt, false, true, OnOk, IfOk};
 ghost use Rattle.std.specs.Option.{option_copied};
 ghost use Rattle.sx_events.specs.Place as place;
 ghost use Rattle.sx_events.specs.Place.{Written as Line};
@@ -110,7 +111,8 @@ impl Attributes {
 
     /// Whether so many lines wait that are not IMPLIED.
     pub fn is_full(&self, most: u64) -> bool
-        ensures { (attributes : List Line) → AreWaiting self.now attributes → result ≡ not (nat_lt (length attributes) most) }
+        ensures { (attributes : List Line) → AreWaiting self.now attributes
+            → result ≡ not (nat_lt (length attributes) most) }
     {
         let room = most.saturating_sub(self.count as u64);
         self.spaces.len() as u64 >= room
@@ -118,7 +120,8 @@ impl Attributes {
 
     /// Puts a line behind those that wait.
     pub fn push(&mut self, alloc: Global, name: &str, value: &str) -> Result<(), AllocError>
-        ensures waits { OnOk result ((attributes : List Line) → AreWaiting self.old attributes → AreWaiting self.new (attributes ++ place.written name.now value.now ∷ [])) }
+        ensures waits { OnOk result ((attributes : List Line) → AreWaiting self.old attributes
+            → AreWaiting self.new (attributes ++ place.written name.now value.now ∷ [])) }
         ensures is_loose { OnOk result (self.new.is_loose ≡ true) }
     {
         let value = Chars::copy(alloc, value)?;
@@ -135,7 +138,8 @@ impl Attributes {
 
     // Puts a line that declares nothing behind those that wait, in the memory of one that waits no longer, if there is one.
     fn put(&mut self, alloc: Global, name: &str, value: Chars) -> Result<(), AllocError>
-        ensures lines { OnOk result (lines_of self.new ≡ lines_of self.old ++ place.written name.now value ∷ []) }
+        ensures lines { OnOk result (lines_of self.new
+            ≡ lines_of self.old ++ place.written name.now value ∷ []) }
         ensures spaces { self.new.spaces ≡ self.old.spaces }
         ensures is_loose { self.new.is_loose ≡ self.old.is_loose }
     {

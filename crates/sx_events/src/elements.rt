@@ -1,6 +1,7 @@
 // The open elements of a document.
 ghost use Rattle.sx_events.specs.Place.{declared_behind};
-ghost use Rattle.std.specs.Prelude.{◌≡◌, ◌<◌, ◌≤◌, [], ◌∷◌, ℕ, List, Bool, length, min, not, nat_lt, false, IsTrue, IsFalse, OnOk};
+ghost use Rattle.std.specs.Prelude.{◌≡◌, ◌<◌, ◌≤◌, [], ◌∷◌, ℕ, List, Bool, length};
+ghost use Rattle.std.specs.Prelude.{min, not, nat_lt, false, IsTrue, IsFalse, OnOk};
 ghost use Rattle.sx_names.specs.Scope.{ScopeBindings};
 
 use arrayvec::ArrayVec;
@@ -49,7 +50,8 @@ impl Elements {
 
     /// Whether so many elements are open, or as many as there is room for.
     pub fn is_full(&self, depth: u64) -> bool
-        ensures is { (names : List (List ℕ)) → Holds self.now names → result ≡ not (nat_lt (length names) (min depth 200)) }
+        ensures is { (names : List (List ℕ)) → Holds self.now names
+            → result ≡ not (nat_lt (length names) (min depth 200)) }
         ensures room { IsFalse result → length self.now.starts.items < 200 }
     {
         self.starts.len() as u64 >= depth.min(MOST_OPEN)
@@ -77,7 +79,8 @@ impl Elements {
     pub fn push(&mut self, name: &str) -> Result<(), AllocError>
         requires room { length self.old.starts.items < 200 }
         requires entered { length self.old.starts.items < length self.old.scope }
-        ensures names { OnOk result ((names : List (List ℕ)) → Holds self.old names → Holds self.new (name.now ∷ names)) }
+        ensures names { OnOk result ((names : List (List ℕ)) → Holds self.old names
+            → Holds self.new (name.now ∷ names)) }
         ensures scope { self.new.scope ≡ self.old.scope }
     {
         let start = self.text.len();
@@ -88,8 +91,10 @@ impl Elements {
 
     /// Ends the innermost open element, if it has this name, and says whether it has.
     pub fn end(&mut self, name: &str) -> bool
-        ensures is { (names : List (List ℕ)) → Holds self.old names → result ≡ first_is names name.now }
-        ensures names { IsTrue result → (names : List (List ℕ)) → Holds self.old names → Holds self.new (rest_of names) }
+        ensures is { (names : List (List ℕ)) → Holds self.old names
+            → result ≡ first_is names name.now }
+        ensures names { IsTrue result → (names : List (List ℕ)) → Holds self.old names
+            → Holds self.new (rest_of names) }
         ensures scope { IsTrue result → self.new.scope ≡ rest_of self.old.scope }
     {
         let Some(start) = self.starts.pop() else {
@@ -107,7 +112,8 @@ impl Elements {
 // Binds what an element declares.
 fn declare(scope: &mut Scope, spaces: &[Space]) -> Result<(), AllocError>
     requires { 0 < length scope.old }
-    ensures declared { OnOk result ((around : ScopeBindings) → scope.old ≡ [] ∷ around → scope.new ≡ declared_behind [] spaces.now ∷ around) }
+    ensures declared { OnOk result ((around : ScopeBindings) → scope.old ≡ [] ∷ around
+        → scope.new ≡ declared_behind [] spaces.now ∷ around) }
     ensures length { length scope.new ≡ length scope.old }
 {
     for space in spaces {

@@ -1,8 +1,12 @@
 // The reader of events: bytes of a document in, its events out.
-ghost use Rattle.std.specs.Prelude.{◌≡◌, ◌^◌, ◌<◌, ◌≤◌, ◌+◌, ◌-◌, [], ◌++◌, List, ℕ, Bool, true, false, min, nat_lt, take, IsTrue, IfOk, OnOk, OnErr, IsErr, None, length};
+ghost use Rattle.std.specs.Prelude.{◌≡◌, ◌^◌, ◌<◌, ◌≤◌, ◌+◌, ◌-◌, [], ◌++◌};
+ghost use Rattle.std.specs.Prelude.{List, ℕ, Bool, true, false, min, nat_lt, take, IsTrue, IfOk, OnOk};
+ghost use Rattle.std.specs.Prelude.{OnErr, IsErr, None, length};
 ghost use Rattle.sx_names.specs.Numbering.{NameTable, IsDistinct, KeepsPlaces};
 ghost use Rattle.sx_events.specs.Course.{is_beyond, line_behind, looked_at, events_of};
-ghost use Rattle.sx_events.specs.Reader.{TookAll, Broke, EndsWell, Counted, EventsStand, Rests, Gives, GivesNext, IfEvent, IsLastLine, StandsStill, TakesBytes, TakesEnd, left, is_spent};
+ghost use Rattle.sx_events.specs.Reader.{TookAll, Broke, EndsWell, Counted, EventsStand, Rests, Gives};
+ghost use Rattle.sx_events.specs.Reader.{GivesNext, IfEvent, IsLastLine, StandsStill, TakesBytes, TakesEnd};
+ghost use Rattle.sx_events.specs.Reader.{left, is_spent};
 ghost use Rattle.sx_events.specs.Pending.{IsIdle};
 ghost use Rattle.sx_events.specs.Standing.{count};
 
@@ -48,7 +52,8 @@ pub struct EventReader {
 // ends no line.
 fn count_looked_at(limit: u64, total: u64, piece: &[u8]) -> usize
     ensures within { result ≤ length piece.now }
-    ensures is { (limits : Limits) (b : List ℕ) → limits.bytes ≡ limit → limit ≤ 2 ^ 61 → total ≡ min (length b) (2 ^ 64 - 1)
+    ensures is { (limits : Limits) (b : List ℕ) → limits.bytes ≡ limit → limit ≤ 2 ^ 61
+        → total ≡ min (length b) (2 ^ 64 - 1)
         → looked_at limits (b ++ piece.now) ≡ looked_at limits b ++ take result piece.now }
 {
     if total > limit {
@@ -162,14 +167,17 @@ impl EventReader {
 
     // Whether the bytes have passed the limit of a document.
     fn is_beyond(&self) -> bool
-        ensures { (limits : Limits) (b : List ℕ) (ended : Bool) → limits.bytes ≤ 2 ^ 61 → Counted self.now limits b ended → result ≡ is_beyond limits b }
+        ensures { (limits : Limits) (b : List ℕ) (ended : Bool) → limits.bytes ≤ 2 ^ 61
+            → Counted self.now limits b ended → result ≡ is_beyond limits b }
     {
         self.total > self.limits.bytes
     }
 
     // Takes lines until an event waits or none can.
     fn read_on(&mut self, names: &mut Names) -> Result<(), AllocError>
-        ensures rests { OnOk result ((limits : Limits) (b : List ℕ) (ended : Bool) (given : ℕ) → EventsStand self.old limits names.old b ended given → Rests self.new limits names.new b ended given) }
+        ensures rests { OnOk result ((limits : Limits) (b : List ℕ) (ended : Bool) (given : ℕ)
+            → EventsStand self.old limits names.old b ended given
+            → Rests self.new limits names.new b ended given) }
         ensures no_more { OnOk result (¬ IsIdle self.new.pending → left self.new ≤ left self.old) }
         ensures kept { KeepsPlaces names.old names.new }
         ensures distinct { IsDistinct names.old → IsDistinct names.new }
@@ -194,9 +202,13 @@ impl EventReader {
 
     // All lines that have come were taken: decides how the bytes end, where they do.
     fn settle(&mut self)
-        ensures rests { (limits : Limits) (names : NameTable) (b : List ℕ) (ended : Bool) (given : ℕ) → self.old.ending ≡ None → IsIdle self.old.pending → Counted self.old limits b ended
-            → TookAll self.old.lines self.old.standing self.old.pending limits names b ended given self.old.line → Rests self.new limits names b ended given }
-        ensures no_more { self.old.ending ≡ None → IsIdle self.old.pending → ¬ IsIdle self.new.pending → left self.new ≤ count self.old.standing.run self.old.pending + 1 }
+        ensures rests { (limits : Limits) (names : NameTable) (b : List ℕ) (ended : Bool) (given : ℕ)
+            → self.old.ending ≡ None → IsIdle self.old.pending → Counted self.old limits b ended
+            → TookAll self.old.lines self.old.standing self.old.pending limits names b ended given
+            self.old.line
+            → Rests self.new limits names b ended given }
+        ensures no_more { self.old.ending ≡ None → IsIdle self.old.pending → ¬ IsIdle self.new.pending
+            → left self.new ≤ count self.old.standing.run self.old.pending + 1 }
         ensures same { is_spent self.new ≡ is_spent self.old }
     {
         let line = self.lines.line();
@@ -220,7 +232,8 @@ impl EventReader {
 
     // The bytes are broken off: behind the run of text nothing happens.
     fn break_off(&mut self, fault: DocFault)
-        ensures rests { (limits : Limits) (names : NameTable) (b : List ℕ) (ended : Bool) (given : ℕ) → Broke self.old.standing self.old.pending limits names b ended given self.old.line fault
+        ensures rests { (limits : Limits) (names : NameTable) (b : List ℕ) (ended : Bool) (given : ℕ)
+            → Broke self.old.standing self.old.pending limits names b ended given self.old.line fault
             → Rests self.new limits names b ended given }
         ensures no_more { left self.new ≤ count self.old.standing.run self.old.pending }
         ensures same { is_spent self.new ≡ is_spent self.old }
@@ -231,7 +244,8 @@ impl EventReader {
 
     // The bytes have ended well, with this line.
     fn close(&mut self, line: u64)
-        ensures rests { (limits : Limits) (names : NameTable) (b : List ℕ) (ended : Bool) (given : ℕ) → EndsWell self.old.standing self.old.pending limits names b ended given self.old.line line
+        ensures rests { (limits : Limits) (names : NameTable) (b : List ℕ) (ended : Bool) (given : ℕ)
+            → EndsWell self.old.standing self.old.pending limits names b ended given self.old.line line
             → Rests self.new limits names b ended given }
         ensures no_more { left self.new ≤ count self.old.standing.run self.old.pending + 1 }
         ensures same { is_spent self.new ≡ is_spent self.old }
@@ -242,7 +256,9 @@ impl EventReader {
 
     // Gives the event that waits longest.
     fn give(&mut self) -> Option<Result<Event, DocFault>>
-        ensures gives { (limits : Limits) (names : NameTable) (b : List ℕ) (ended : Bool) (given : ℕ) → Rests self.old limits names b ended given → Gives limits names b ended given self.new result }
+        ensures gives { (limits : Limits) (names : NameTable) (b : List ℕ) (ended : Bool) (given : ℕ)
+            → Rests self.old limits names b ended given
+            → Gives limits names b ended given self.new result }
         ensures waits { IfEvent result (λ _. ¬ IsIdle self.old.pending) }
         ensures fewer { IfEvent result (λ _. left self.new < left self.old) }
         ensures same { is_spent self.new ≡ is_spent self.old }

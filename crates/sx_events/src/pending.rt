@@ -42,7 +42,8 @@ impl Pending {
 
     /// Takes the event that waits longest.
     pub fn take_first(&mut self) -> Option<Waiting>
-        ensures next { IfSome result (λ first. (names : NameTable) (events : List Lined) (given line : ℕ) → Pends self.old names events given line → GivesNext self.new names events given first) }
+        ensures next { IfSome result (λ first. (names : NameTable) (events : List Lined) (given line : ℕ)
+            → Pends self.old names events given line → GivesNext self.new names events given first) }
         ensures fewer { IfSome result (λ _. count_held self.new + 1 ≡ count_held self.old) }
         ensures nothing { IfNone result ((self.new ≡ self.old) × IsIdle self.old) }
     {

@@ -1,5 +1,6 @@
 // What is known of a document behind the lines that were taken, and how the next line is taken.
-ghost use Rattle.std.specs.Prelude.{◌≡◌, ◌+◌, ◌≤◌, ℕ, List, IfOk, IfSome, IfNone, Some, false, true};
+ghost use Rattle.std.specs.Prelude.{◌≡◌, ◌+◌, ◌≤◌, ℕ, List, IfOk, IfSome, IfNone, Some};
+ghost use Rattle.std.specs.Prelude.{false, true};
 ghost use Rattle.sx_esis.specs.Gives.{view_line};
 ghost use Rattle.sx_esis.specs.Lines.{starts, ends, has, lacks, says, instructs, skips, conforms};
 ghost use Rattle.sx_names.specs.Numbering.{NameTable, IsDistinct, KeepsPlaces};
@@ -100,7 +101,9 @@ impl Standing {
         number: u64,
         pending: &mut Pending,
     ) -> Result<Option<Which>, AllocError>
-        ensures takes { IfOk result (λ fault. Takes limits.now (view_line line.entry) number names.new self.old self.new pending.old pending.new fault) }
+        ensures takes { IfOk result
+            (λ fault. Takes limits.now (view_line line.entry) number names.new self.old self.new pending.old
+            pending.new fault) }
         ensures one { count self.new.run pending.new ≤ count self.old.run pending.old + 1 }
         ensures kept { KeepsPlaces names.old names.new }
         ensures distinct { IsDistinct names.old → IsDistinct names.new }
@@ -146,7 +149,9 @@ impl Standing {
         number: u64,
         pending: &mut Pending,
     ) -> Result<Option<Which>, AllocError>
-        ensures takes { IfOk result (λ fault. TakesHere limits.now (starts name.now) number names.new self.old self.new pending.old pending.new fault) }
+        ensures takes { IfOk result
+            (λ fault. TakesHere limits.now (starts name.now) number names.new self.old self.new pending.old
+            pending.new fault) }
         ensures one { count self.new.run pending.new ≤ count self.old.run pending.old + 1 }
         ensures kept { KeepsPlaces names.old names.new }
         ensures distinct { IsDistinct names.old → IsDistinct names.new }
@@ -164,7 +169,9 @@ impl Standing {
 
     // An element ends.
     fn end(&mut self, name: &str, number: u64, pending: &mut Pending) -> Option<Which>
-        ensures takes { (limits : Limits) (names : NameTable) → TakesHere limits (ends name.now) number names self.old self.new pending.old pending.new result }
+        ensures takes { (limits : Limits) (names : NameTable)
+            → TakesHere limits (ends name.now) number names self.old self.new pending.old pending.new
+            result }
         ensures one { count self.new.run pending.new ≤ count self.old.run pending.old + 1 }
     {
         if !self.elements.end(name) {
@@ -182,7 +189,9 @@ impl Standing {
         value: &str,
         pending: &mut Pending,
     ) -> Result<Option<Which>, AllocError>
-        ensures takes { (number : ℕ) (names : NameTable) → IfOk result (λ fault. TakesHere limits.now (has name.now value.now) number names self.old self.new pending.old pending.new fault) }
+        ensures takes { (number : ℕ) (names : NameTable)
+            → IfOk result (λ fault. TakesHere limits.now (has name.now value.now) number names self.old
+            self.new pending.old pending.new fault) }
         ensures one { count self.new.run pending.new ≤ count self.old.run pending.old + 1 }
     {
         if self.attributes.is_full(limits.attrs) {
@@ -195,7 +204,8 @@ impl Standing {
 
     // An attribute that the element that starts next has not.
     fn lack(&mut self, pending: &mut Pending) -> Option<Which>
-        ensures takes { (limits : Limits) (name : List ℕ) (number : ℕ) (names : NameTable) → TakesHere limits (lacks name) number names self.old self.new pending.old pending.new result }
+        ensures takes { (limits : Limits) (name : List ℕ) (number : ℕ) (names : NameTable)
+            → TakesHere limits (lacks name) number names self.old self.new pending.old pending.new result }
         ensures one { count self.new.run pending.new ≤ count self.old.run pending.old + 1 }
     {
         self.attributes.is_loose = true;
@@ -205,7 +215,9 @@ impl Standing {
 
     // A text, which goes on the run.
     fn say(&mut self, limits: &Limits, text: &str, number: u64) -> Result<Option<Which>, AllocError>
-        ensures takes { (names : NameTable) (pending : Pending) → IfOk result (λ fault. TakesHere limits.now (says text.now) number names self.old self.new pending pending fault) }
+        ensures takes { (names : NameTable) (pending : Pending)
+            → IfOk result (λ fault. TakesHere limits.now (says text.now) number names self.old self.new
+            pending pending fault) }
         ensures one { (pending : Pending) → count self.new.run pending ≤ count self.old.run pending + 1 }
     {
         let length = self.run.len() as u64;
@@ -223,7 +235,9 @@ impl Standing {
         number: u64,
         pending: &mut Pending,
     ) -> Result<Option<Which>, AllocError>
-        ensures takes { (limits : Limits) (names : NameTable) → IfOk result (λ fault. TakesHere limits (instructs text.now) number names self.old self.new pending.old pending.new fault) }
+        ensures takes { (limits : Limits) (names : NameTable)
+            → IfOk result (λ fault. TakesHere limits (instructs text.now) number names self.old self.new
+            pending.old pending.new fault) }
         ensures one { count self.new.run pending.new ≤ count self.old.run pending.old + 1 }
     {
         let (target, content) = split_instruction(text);
@@ -235,7 +249,8 @@ impl Standing {
 
     // The document conformed.
     fn conform(&mut self, pending: &mut Pending) -> Option<Which>
-        ensures takes { (limits : Limits) (number : ℕ) (names : NameTable) → TakesHere limits conforms number names self.old self.new pending.old pending.new result }
+        ensures takes { (limits : Limits) (number : ℕ) (names : NameTable)
+            → TakesHere limits conforms number names self.old self.new pending.old pending.new result }
         ensures one { count self.new.run pending.new ≤ count self.old.run pending.old + 1 }
     {
         if !self.elements.is_empty() {

@@ -1,12 +1,14 @@
 // The start of an element: what it declares, its name and its attributes.
-ghost use Rattle.std.specs.Prelude.{◌≡◌, ◌≤◌, ◌||◌, ℕ, List, [], Bool, false, true, is_some, length, take, IfOk, IfSome, OnOk};
+ghost use Rattle.std.specs.Prelude.{◌≡◌, ◌≤◌, ◌||◌, ℕ, List, [], Bool, false, true};
+ghost use Rattle.std.specs.Prelude.{is_some, length, take, IfOk, IfSome, OnOk};
 ghost use Rattle.sx_names.specs.Numbering.{IsDistinct, KeepsPlaces};
 ghost use Rattle.sx_named.specs.Named.{Name, IsNumbered, AreNumbered, name_at, attribute_at, attributes_at};
 ghost use Rattle.sx_chars.specs.Names.{prefix_of};
 ghost use Rattle.sx_events.specs.Place as place;
 ghost use Rattle.sx_events.specs.Place.{Place};
 ghost use Rattle.sx_events.specs.Standing.{Holds, AreWaiting};
-ghost use Rattle.sx_events.specs.Starting.{Begins, IsLabelOf, AreAttributesOf, spaces_fault, has_number, has_double_number};
+ghost use Rattle.sx_events.specs.Starting.{Begins, IsLabelOf, AreAttributesOf, spaces_fault, has_number};
+ghost use Rattle.sx_events.specs.Starting.{has_double_number};
 
 use crate::attributes::{Attributes, Written};
 use crate::elements::Elements;
@@ -93,7 +95,8 @@ fn label(
     uri: &str,
     local: &str,
 ) -> Result<Label, AllocError>
-    ensures name { IfOk result (λ l. IsLabelOf names.new (record { prefix = prefix.now; uri = uri.now; local = local.now }) l) }
+    ensures name { IfOk result
+        (λ l. IsLabelOf names.new (record { prefix = prefix.now; uri = uri.now; local = local.now }) l) }
     ensures unique { OnOk result (IsDistinct names.new) }
     ensures kept { KeepsPlaces names.old names.new }
     ensures distinct { IsDistinct names.old → IsDistinct names.new }
@@ -111,7 +114,8 @@ fn element_label(
     name: &str,
 ) -> Result<Option<Label>, AllocError>
     ensures bound { IfOk result (λ given. is_some given ≡ place.is_bound_prefix scope.now name.now) }
-    ensures name { IfOk result (λ given. IfSome given (λ l. IsLabelOf names.new (place.element_name scope.now name.now) l)) }
+    ensures name { IfOk result
+        (λ given. IfSome given (λ l. IsLabelOf names.new (place.element_name scope.now name.now) l)) }
     ensures unique { IfOk result (λ given. IfSome given (λ _. IsDistinct names.new)) }
     ensures kept { KeepsPlaces names.old names.new }
     ensures distinct { IsDistinct names.old → IsDistinct names.new }
@@ -130,8 +134,10 @@ fn attribute_label(
     names: &mut Names,
     name: &str,
 ) -> Result<Option<Label>, AllocError>
-    ensures bound { IfOk result (λ given. is_some given ≡ (place.is_empty (prefix_of name.now) || place.is_bound_prefix scope.now name.now)) }
-    ensures name { IfOk result (λ given. IfSome given (λ l. IsLabelOf names.new (place.attribute_name scope.now name.now) l)) }
+    ensures bound { IfOk result (λ given. is_some given
+        ≡ (place.is_empty (prefix_of name.now) || place.is_bound_prefix scope.now name.now)) }
+    ensures name { IfOk result
+        (λ given. IfSome given (λ l. IsLabelOf names.new (place.attribute_name scope.now name.now) l)) }
     ensures kept { KeepsPlaces names.old names.new }
     ensures distinct { IsDistinct names.old → IsDistinct names.new }
 {
@@ -155,8 +161,12 @@ fn attributes(
     count: usize,
 ) -> Result<Option<Attrs>, AllocError>
     requires { count ≤ length lines.old.items }
-    ensures bound { IfOk result (λ given. is_some given ≡ place.all_bound scope.now (take count lines.old.items)) }
-    ensures names { IfOk result (λ given. IfSome given (λ attrs. AreAttributesOf names.new (place.attributes_in scope.now (take count lines.old.items)) attrs)) }
+    ensures bound { IfOk result (λ given. is_some given
+        ≡ place.all_bound scope.now (take count lines.old.items)) }
+    ensures names { IfOk result
+        (λ given. IfSome given
+        (λ attrs. AreAttributesOf names.new (place.attributes_in scope.now (take count lines.old.items))
+        attrs)) }
     ensures as_many { length lines.new.items ≡ length lines.old.items }
     ensures kept { KeepsPlaces names.old names.new }
     ensures distinct { IsDistinct names.old → IsDistinct names.new }
@@ -211,7 +221,9 @@ pub(crate) fn begin(
     names: &mut Names,
     name: &str,
 ) -> Result<Result<Event, Which>, AllocError>
-    ensures begins { IfOk result (λ done. (p : Place) → Holds elements.old p.opened → elements.old.scope ≡ p.scope → AreWaiting waiting.old p.attributes → Begins limits.now p name.now names.new elements.new done) }
+    ensures begins { IfOk result (λ done. (p : Place) → Holds elements.old p.opened
+        → elements.old.scope ≡ p.scope → AreWaiting waiting.old p.attributes
+        → Begins limits.now p name.now names.new elements.new done) }
     ensures waits { AreWaiting waiting.new [] }
     ensures is_loose { waiting.new.is_loose ≡ false }
     ensures kept { KeepsPlaces names.old names.new }

@@ -49,11 +49,15 @@ fn take_next(
     limits: &Limits,
     names: &mut Names,
 ) -> Result<Taken, AllocError>
-    ensures after { IfOk result (λ done. (b : List ℕ) (ended : Bool) (given line : ℕ) → IsIdle pending.old → Along lines.old standing.old pending.old limits.now names.old b ended given line
+    ensures after { IfOk result (λ done. (b : List ℕ) (ended : Bool) (given line : ℕ)
+        → IsIdle pending.old
+        → Along lines.old standing.old pending.old limits.now names.old b ended given line
         → AfterTaking lines.new standing.new pending.new limits.now names.new b ended given line done) }
     ensures fewer { IfOk result (λ done. done ≡ taken.Line → unread lines.new < unread lines.old) }
     ensures same { IfOk result (λ done. done ≡ taken.All → pending.new ≡ pending.old) }
-    ensures no_more { IfOk result (λ done. IsNoMore done (unread lines.old + count standing.old.run pending.old) (unread lines.new) (count standing.new.run pending.new)) }
+    ensures no_more { IfOk result
+        (λ done. IsNoMore done (unread lines.old + count standing.old.run pending.old) (unread lines.new)
+        (count standing.new.run pending.new)) }
     ensures kept { KeepsPlaces names.old names.new }
     ensures distinct { IsDistinct names.old → IsDistinct names.new }
 {
@@ -82,11 +86,14 @@ pub(crate) fn take_lines(
     limits: &Limits,
     names: &mut Names,
 ) -> Result<Taken, AllocError>
-    ensures after { IfOk result (λ done. (b : List ℕ) (ended : Bool) (given line : ℕ) → Along lines.old standing.old pending.old limits.now names.old b ended given line
+    ensures after { IfOk result (λ done. (b : List ℕ) (ended : Bool) (given line : ℕ)
+        → Along lines.old standing.old pending.old limits.now names.old b ended given line
         → AfterTaking lines.new standing.new pending.new limits.now names.new b ended given line done) }
     ensures waits { IfOk result (λ done. done ≡ taken.Line → ¬ IsIdle pending.new) }
     ensures idle { IfOk result (λ done. done ≡ taken.All → IsIdle pending.new) }
-    ensures no_more { IfOk result (λ done. IsNoMore done (unread lines.old + count standing.old.run pending.old) (unread lines.new) (count standing.new.run pending.new)) }
+    ensures no_more { IfOk result
+        (λ done. IsNoMore done (unread lines.old + count standing.old.run pending.old) (unread lines.new)
+        (count standing.new.run pending.new)) }
     ensures kept { KeepsPlaces names.old names.new }
     ensures distinct { IsDistinct names.old → IsDistinct names.new }
 {

@@ -1,5 +1,6 @@
 // What a caller relies on, said of the definitions.
-ghost use Rattle.std.specs.Prelude.{◌≡◌, ◌⊎◌, false, [], ◌∷◌, ◌++◌, Ok, List, All, AllPairs, Contains};
+ghost use Rattle.std.specs.Prelude.{◌≡◌, ◌⊎◌, false, [], ◌∷◌, ◌++◌, Ok, List, All};
+ghost use Rattle.std.specs.Prelude.{AllPairs, Contains};
 ghost use Rattle.sx_atoms.specs.declared.atoms.Atom.{Atom as AnyAtom};
 ghost use Rattle.sx_atoms.specs.declared.comparison.CmpOp.{CmpOp as Operator};
 ghost use Rattle.sx_atoms.specs.declared.comparison.CmpOp.TheVariants as op;

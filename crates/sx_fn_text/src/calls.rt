@@ -1,5 +1,6 @@
 // Calls of the functions on texts.
-ghost use Rattle.std.specs.Prelude.{◌≡◌, ◌≤◌, ◌∷◌, [], length, slice_get, Ok, Err, IsTrue, IfOk, MatchResult};
+ghost use Rattle.std.specs.Prelude.{◌≡◌, ◌≤◌, ◌∷◌, [], length, slice_get, Ok, Err, IsTrue};
+ghost use Rattle.std.specs.Prelude.{IfOk, MatchResult};
 ghost use Rattle.std.specs.Str.{chars};
 ghost use Rattle.sx_atoms.specs.Signature.{allows};
 ghost use Rattle.sx_atoms.specs.declared.functions.TextFn.TheVariants as fn_of;

@@ -9,7 +9,8 @@ ghost use Rattle.sx_fn_text.specs.Laws.{text, integer};
 pub fn lengths()
     ensures { (s t u : List ℕ) → IsUtf8 s → IsUtf8 t
         → text_call fn_of.Concat (text s ∷ text t ∷ []) ≡ Ok (text u)
-        → text_call fn_of.StringLength (text u ∷ []) ≡ Ok (integer (length (chars s) + length (chars t))) }
+        → text_call fn_of.StringLength (text u ∷ [])
+        ≡ Ok (integer (length (chars s) + length (chars t))) }
 {}
 
 /// What stands before the first place of a text, that text and what stands behind it are the whole.
@@ -23,7 +24,8 @@ pub fn parts()
 
 /// The characters from the first one on are the text.
 pub fn whole()
-    ensures { (s : List ℕ) → IsUtf8 s → text_call fn_of.Substring (text s ∷ integer 1 ∷ []) ≡ Ok (text s) }
+    ensures { (s : List ℕ) → IsUtf8 s
+        → text_call fn_of.Substring (text s ∷ integer 1 ∷ []) ≡ Ok (text s) }
 {}
 
 /// A text that is translated by two equal texts stays as it is.

@@ -1,5 +1,6 @@
 // What characters become, in a table.
-ghost use Rattle.std.specs.Prelude.{◌≡◌, ℕ, ◌==◌, if◌then◌else◌, Some, unwrap_or, IfOk, OnOk};
+ghost use Rattle.std.specs.Prelude.{◌≡◌, ℕ, ◌==◌, if◌then◌else◌, Some, unwrap_or, IfOk};
+ghost use Rattle.std.specs.Prelude.{OnOk};
 ghost use Rattle.std.specs.BTreeMap.{get};
 ghost use Rattle.std.specs.Ordering.{nat_cmp};
 ghost use Rattle.std.specs.Str.{chars};
@@ -14,7 +15,8 @@ pub type Table = BTreeMap<char, Option<char>>;
 // Says what a character becomes, if that is not said so far.
 fn add(table: &mut Table, c: char, partner: Option<char>) -> Result<(), AllocError>
     ensures { OnOk result ((d : ℕ) → get nat_cmp table.new d
-        ≡ (if d == c then Some (unwrap_or (get nat_cmp table.old d) partner) else get nat_cmp table.old d)) }
+        ≡ (if d == c then Some (unwrap_or (get nat_cmp table.old d) partner) else get nat_cmp table.old
+        d)) }
 {
     table.entry(c)?.or_insert(partner);
     Ok(())

@@ -1,5 +1,6 @@
 // The tokens of a text, one behind the other.
-ghost use Rattle.std.specs.Prelude.{◌≡◌, ◌<◌, ◌^◌, ◌↔◌, IsTrue, MatchOption, IfOk, IfErr, length, slice_index};
+ghost use Rattle.std.specs.Prelude.{◌≡◌, ◌<◌, ◌^◌, ◌↔◌, IsTrue, MatchOption, IfOk, IfErr};
+ghost use Rattle.std.specs.Prelude.{length, slice_index};
 ghost use Rattle.sx_lex.specs.Fronts.{IsToken};
 ghost use Rattle.sx_lex.specs.Tokens.{AreTokens, BreaksAt, NoToken, white_len};
 

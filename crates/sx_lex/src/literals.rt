@@ -1,5 +1,6 @@
 // Literals.
-ghost use Rattle.std.specs.Prelude.{◌≡◌, ◌+◌, ◌-◌, ◌≤◌, true, MatchOption, length, drop, slice_index};
+ghost use Rattle.std.specs.Prelude.{◌≡◌, ◌+◌, ◌-◌, ◌≤◌, true, MatchOption, length, drop};
+ghost use Rattle.std.specs.Prelude.{slice_index};
 ghost use Rattle.sx_lex.specs.Fronts.{IsFront, IsToken, IsQuoteFree};
 ghost use Rattle.sx_lex.specs.Tokens as spec;
 ghost use Rattle.sx_lex.specs.Tokens.{NoToken};

@@ -1,5 +1,6 @@
 // Names and wildcards.
-ghost use Rattle.std.specs.Prelude.{◌≡◌, ◌≢◌, ◌+◌, ◌<◌, true, MatchOption, length, slice_index};
+ghost use Rattle.std.specs.Prelude.{◌≡◌, ◌≢◌, ◌+◌, ◌<◌, true, MatchOption, length};
+ghost use Rattle.std.specs.Prelude.{slice_index};
 ghost use Rattle.sx_chars.specs.Names as chars;
 ghost use Rattle.sx_lex.specs.Fronts as spec;
 ghost use Rattle.sx_lex.specs.Fronts.{IsToken, IsTextFront, IsNameRun};

@@ -1,5 +1,6 @@
 // Lines of a printed result read back, one by one.
-ghost use Rattle.std.specs.Prelude.{◌≡◌, ℕ, [], ◌∷◌, ◌++◌, List, true, IfSome, IfNone, IfOk, MatchOption};
+ghost use Rattle.std.specs.Prelude.{◌≡◌, ℕ, [], ◌∷◌, ◌++◌, List, true, IfSome, IfNone};
+ghost use Rattle.std.specs.Prelude.{IfOk, MatchOption};
 ghost use Rattle.sx_lines.specs.declared.lines.Line.{Line};
 ghost use Rattle.sx_lines.specs.Print.{escape};
 ghost use Rattle.sx_lines.specs.Normal.{IsName, IsTarget};
@@ -29,7 +30,8 @@ pub enum Line {
 
 /// What stands in front of the first such byte and behind it.
 pub fn split_at_byte(mark: u8, bytes: &[u8]) -> Option<(&[u8], &[u8])>
-    ensures { MatchOption result (Lacks mark bytes.now) (λ parts. Lacks mark parts.0.now × (bytes.now ≡ parts.0.now ++ mark ∷ parts.1.now)) }
+    ensures { MatchOption result (Lacks mark bytes.now) (λ parts. Lacks mark parts.0.now
+        × (bytes.now ≡ parts.0.now ++ mark ∷ parts.1.now)) }
 {
     match memchr(mark, bytes) {
         Some(place) => Some((&bytes[..place], &bytes[place + 1..])),
@@ -81,7 +83,8 @@ fn read_name(alloc: Global, bytes: &[u8]) -> Result<Option<Chars>, AllocError>
 
 // The target of a processing instruction.
 fn read_target(alloc: Global, bytes: &[u8]) -> Result<Option<Chars>, AllocError>
-    ensures found { IfOk result (λ answer. IfSome answer (λ target. IsTarget target × (target ≡ bytes.now))) }
+    ensures found { IfOk result (λ answer. IfSome answer (λ target. IsTarget target
+        × (target ≡ bytes.now))) }
     ensures none { IfOk result (λ answer. IfNone answer (¬ (IsTarget bytes.now))) }
 {
     match str::from_utf8(bytes) {
@@ -156,7 +159,8 @@ fn read_value(alloc: Global, name: &[u8], rest: &[u8]) -> Result<Option<Line>, A
 
 // What stands behind the word CDATA and a space.
 fn behind_cdata(bytes: &[u8]) -> Option<&[u8]>
-    ensures { MatchOption result ((value : List ℕ) → ¬ (word_cdata ++ value ≡ bytes.now)) (λ value. word_cdata ++ value.now ≡ bytes.now) }
+    ensures { MatchOption result ((value : List ℕ)
+        → ¬ (word_cdata ++ value ≡ bytes.now)) (λ value. word_cdata ++ value.now ≡ bytes.now) }
 {
     match bytes {
         [b'C', b'D', b'A', b'T', b'A', b' ', value @ ..] => Some(value),
@@ -167,8 +171,10 @@ fn behind_cdata(bytes: &[u8]) -> Option<&[u8]>
 // An attribute by its name and its escaped value.
 fn read_pair_parts(alloc: Global, name: &[u8], value: &[u8]) -> Result<Option<Line>, AllocError>
     requires { Lacks 32 name.now }
-    ensures found { IfOk result (λ answer. IfSome answer (IsLineOf (65 ∷ name.now ++ 32 ∷ (word_cdata ++ value.now)))) }
-    ensures none { IfOk result (λ answer. IfNone answer (IsNoLine (65 ∷ name.now ++ 32 ∷ (word_cdata ++ value.now)))) }
+    ensures found { IfOk result (λ answer. IfSome answer (IsLineOf (65 ∷ name.now
+        ++ 32 ∷ (word_cdata ++ value.now)))) }
+    ensures none { IfOk result (λ answer. IfNone answer (IsNoLine (65 ∷ name.now
+        ++ 32 ∷ (word_cdata ++ value.now)))) }
 {
     match read_name(alloc, name)? {
         Some(name) => match read_text(alloc, value)? {
@@ -199,8 +205,10 @@ fn read_instruction(alloc: Global, bytes: &[u8]) -> Result<Option<Line>, AllocEr
 // A processing instruction with content.
 fn read_content(alloc: Global, target: &[u8], content: &[u8]) -> Result<Option<Line>, AllocError>
     requires { Lacks 32 target.now }
-    ensures found { IfOk result (λ answer. IfSome answer (IsLineOf (63 ∷ target.now ++ 32 ∷ content.now))) }
-    ensures none { IfOk result (λ answer. IfNone answer (IsNoLine (63 ∷ target.now ++ 32 ∷ content.now))) }
+    ensures found { IfOk result (λ answer. IfSome answer (IsLineOf (63 ∷ target.now
+        ++ 32 ∷ content.now))) }
+    ensures none { IfOk result (λ answer. IfNone answer (IsNoLine (63 ∷ target.now
+        ++ 32 ∷ content.now))) }
 {
     if content.is_empty() {
         return Ok(None);

@@ -1,6 +1,8 @@
 // Events printed as lines of ESIS.
-ghost use Rattle.std.specs.Prelude.{◌≡◌, ◌<◌, ◌≤◌, [], ◌∷◌, ◌++◌, false, length, take, drop, IsTrue, OnOk, IfOk};
-ghost use Rattle.sx_lines.specs.Print.{escaped, escape, newline_after, line, pair_line, pair_lines, content_part, text_mark, printed, ending_of, IsFront};
+ghost use Rattle.std.specs.Prelude.{◌≡◌, ◌<◌, ◌≤◌, [], ◌∷◌, ◌++◌, false, length};
+ghost use Rattle.std.specs.Prelude.{take, drop, IsTrue, OnOk, IfOk};
+ghost use Rattle.sx_lines.specs.Print.{escaped, escape, newline_after, line, pair_line, pair_lines};
+ghost use Rattle.sx_lines.specs.Print.{content_part, text_mark, printed, ending_of, IsFront};
 
 use crate::{Built, Pair};
 use std::alloc::{AllocError, Global};
@@ -51,7 +53,8 @@ fn append_byte(out: &mut Vec<u8>, byte: u8) -> Result<(), AllocError>
 
 // Appends the first byte of a text, escaped, and gives what stands behind it.
 fn append_first<'a>(out: &mut Vec<u8>, text: &'a [u8]) -> Result<&'a [u8], AllocError>
-    ensures escaped { IfOk result (λ rest. out.new.items ++ escape rest.now ≡ out.old.items ++ escape text.now) }
+    ensures escaped { IfOk result (λ rest. out.new.items ++ escape rest.now
+        ≡ out.old.items ++ escape text.now) }
     ensures shorter { IfOk result (λ rest. length rest.now ≤ length text.now) }
     ensures less { IfOk result (λ rest. 0 < length text.now → length rest.now < length text.now) }
     ensures front { IsFront out.old.items out.new.items }
@@ -140,7 +143,8 @@ fn append_content(out: &mut Vec<u8>, content: &[u8]) -> Result<(), AllocError>
 
 // Appends the line of a processing instruction.
 fn append_instruction(out: &mut Vec<u8>, target: &str, content: &str) -> Result<(), AllocError>
-    ensures ok { OnOk result (out.new.items ≡ out.old.items ++ line 63 (target.now ++ content_part content.now)) }
+    ensures ok { OnOk result (out.new.items
+        ≡ out.old.items ++ line 63 (target.now ++ content_part content.now)) }
     ensures front { IsFront out.old.items out.new.items }
 {
     out.push(b'?')?;

@@ -1,5 +1,6 @@
 // Printed results read back.
-ghost use Rattle.std.specs.Prelude.{◌≡◌, [], ◌∷◌, ◌++◌, List, None, IfSome, IfNone, IfOk, true, false};
+ghost use Rattle.std.specs.Prelude.{◌≡◌, [], ◌∷◌, ◌++◌, List, None, IfSome, IfNone, IfOk};
+ghost use Rattle.std.specs.Prelude.{true, false};
 ghost use Rattle.sx_lines.specs.declared.events.Built.{Built};
 ghost use Rattle.sx_lines.specs.declared.lines.Line.{Line};
 ghost use Rattle.sx_lines.specs.Normal.{IsNormal, whole};
@@ -64,7 +65,9 @@ impl Reader {
 
     // Takes an event that may not stand behind attributes.
     fn take_alone(&mut self, event: Built, is_text: bool) -> Result<bool, AllocError>
-        ensures taken { IfOk result (λ taken. taken ≡ true → (self.old.pairs ≡ []) × (self.new.pairs ≡ []) × (self.new.events ≡ self.old.events ++ event ∷ []) × (self.new.after_text ≡ is_text)) }
+        ensures taken { IfOk result (λ taken. taken ≡ true
+            → (self.old.pairs ≡ []) × (self.new.pairs ≡ [])
+            × (self.new.events ≡ self.old.events ++ event ∷ []) × (self.new.after_text ≡ is_text)) }
         ensures refused { IfOk result (λ taken. taken ≡ false → ¬ (self.old.pairs ≡ [])) }
     {
         if !self.pairs.is_empty() {
@@ -88,7 +91,8 @@ impl Reader {
 
     // What was read, if this is all that follows the last line.
     fn finish(self, behind: &[u8]) -> Option<Builts>
-        ensures found { IfSome result (λ events. (events ≡ self.events) × (self.pairs ≡ []) × (behind.now ≡ [])) }
+        ensures found { IfSome result (λ events. (events ≡ self.events) × (self.pairs ≡ [])
+            × (behind.now ≡ [])) }
         ensures none { IfNone result (self.pairs ≡ [] → ¬ (behind.now ≡ [])) }
     {
         if behind.is_empty() && self.pairs.is_empty() {
@@ -102,7 +106,8 @@ impl Reader {
 /// then they are no result, or not printed as `append` and `ending` do. Nesting is not asked for.
 pub fn read_back(alloc: Global, bytes: &[u8]) -> Result<Option<Builts>, AllocError>
     ensures found { IfOk result (λ answer. IfSome answer (λ es. IsNormal es × (whole es ≡ bytes.now))) }
-    ensures none { IfOk result (λ answer. IfNone answer ((es : List Built) → IsNormal es → ¬ (whole es ≡ bytes.now))) }
+    ensures none { IfOk result (λ answer. IfNone answer ((es : List Built) → IsNormal es
+        → ¬ (whole es ≡ bytes.now))) }
 {
     let mut reader = Reader::new(alloc);
     let mut rest = bytes;

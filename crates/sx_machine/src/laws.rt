@@ -10,6 +10,8 @@ ghost use Rattle.sx_names.specs.Numbering.{NameTable};
 
 /// More of a document only adds to the result of a stylesheet that can be streamed, and an end other than a wait is final.
 pub fn growth()
-    ensures { (sheet : Stylesheet) → culprit sheet.templates ≡ None → (names : NameTable) (invocations : ℕ) (p more : List (TreeEvent NamedElement))
-        → MayAllCome p more → IsGrown (result_for sheet names invocations p) (result_for sheet names invocations (p ++ more)) }
+    ensures { (sheet : Stylesheet) → culprit sheet.templates ≡ None
+        → (names : NameTable) (invocations : ℕ) (p more : List (TreeEvent NamedElement))
+        → MayAllCome p more
+        → IsGrown (result_for sheet names invocations p) (result_for sheet names invocations (p ++ more)) }
 {}

@@ -2,7 +2,8 @@
 ghost use Rattle.std.specs.Prelude.{◌≡◌, ◌∷◌, [], ℕ, List, OnOk, IfOk};
 ghost use Rattle.sx_build.specs.Asked.{asked_at};
 ghost use Rattle.sx_machine.specs.Body.{Body, body_of, instr_in_front, written_out};
-ghost use Rattle.sx_machine.specs.Plan.{still, looking, then_plan, plan_of, read_plan, pattern_name, IsRuleOf, AreRulesOf};
+ghost use Rattle.sx_machine.specs.Plan.{still, looking, then_plan, plan_of, read_plan, pattern_name};
+ghost use Rattle.sx_machine.specs.Plan.{IsRuleOf, AreRulesOf};
 ghost use Rattle.sx_machine.specs.Run.{gives};
 ghost use Rattle.sx_tree.specs.declared.events.Label.{Label as NameLabel};
 ghost use Rattle.sx_names.specs.Numbering.{NameTable};
@@ -41,7 +42,8 @@ impl Plan {
     // This is given behind what the plan has so far.
     fn push(&mut self, raw: Raw) -> Result<(), AllocError>
         ensures { OnOk result ((names : NameTable)
-            → read_plan names self.new ≡ then_plan (read_plan names self.old) (still (gives (asked_at names raw ∷ [])))) }
+            → read_plan names self.new
+            ≡ then_plan (read_plan names self.old) (still (gives (asked_at names raw ∷ [])))) }
     {
         match &mut self.behind {
             Some(after) => after.push(raw),
@@ -51,7 +53,9 @@ impl Plan {
 
     // The children are asked for, if they were not asked for before.
     fn look(&mut self, alloc: Global)
-        ensures { (names : NameTable) → read_plan names self.new ≡ then_plan (read_plan names self.old) (looking (gives []) (gives [])) }
+        ensures { (names : NameTable)
+            → read_plan names self.new
+            ≡ then_plan (read_plan names self.old) (looking (gives []) (gives [])) }
     {
         if self.behind.is_none() {
             self.behind = Some(Items::new(alloc));
@@ -62,7 +66,8 @@ impl Plan {
 #[cycle(planning)]
 fn plan_instrs(alloc: Global, instrs: &[Instr], plan: &mut Plan) -> Result<(), AllocError>
     ensures { OnOk result ((names : NameTable) (left : ℕ)
-        → read_plan names plan.new ≡ then_plan (read_plan names plan.old) (plan_of left (written_out names (body_of instrs.now)))) }
+        → read_plan names plan.new
+        ≡ then_plan (read_plan names plan.old) (plan_of left (written_out names (body_of instrs.now)))) }
 {
     for instr in instrs {
         plan_instr(alloc, instr, plan)?;
@@ -74,7 +79,8 @@ fn plan_instrs(alloc: Global, instrs: &[Instr], plan: &mut Plan) -> Result<(), A
 fn plan_instr(alloc: Global, instr: &Instr, plan: &mut Plan) -> Result<(), AllocError>
     ensures { OnOk result ((names : NameTable) (left : ℕ) (rest : Body NameLabel)
         → then_plan (read_plan names plan.new) (plan_of left (written_out names rest))
-        ≡ then_plan (read_plan names plan.old) (plan_of left (written_out names (instr_in_front instr.now rest)))) }
+        ≡ then_plan (read_plan names plan.old)
+        (plan_of left (written_out names (instr_in_front instr.now rest)))) }
 {
     match &instr.form {
         InstrForm::Literal { label } => {

@@ -1,5 +1,6 @@
 // The rules of a stylesheet, found by a number of a name.
-ghost use Rattle.std.specs.Prelude.{◌≡◌, ◌<◌, ◌≤◌, ℕ, Some, length, nat_eq, if◌then◌else◌, IfOk, IfSome, OnOk};
+ghost use Rattle.std.specs.Prelude.{◌≡◌, ◌<◌, ◌≤◌, ℕ, Some, length, nat_eq};
+ghost use Rattle.std.specs.Prelude.{if◌then◌else◌, IfOk, IfSome, OnOk};
 ghost use Rattle.sx_machine.specs.Choice.{last_that};
 ghost use Rattle.sx_machine.specs.Plan.{AreRulesOf};
 ghost use Rattle.sx_machine.specs.Session.{rule_at, place_in, is_named};
@@ -20,8 +21,10 @@ pub struct RuleTable {
 
 // At this number stands this place from now on.
 fn put(places: &mut Items<Option<usize>>, number: usize, place: usize) -> Result<(), AllocError>
-    ensures put { OnOk result ((n : ℕ) → place_in places.new n ≡ (if nat_eq number n then Some place else place_in places.old n)) }
-    ensures bound { OnOk result ((most : ℕ) → number < most → length places.old ≤ most → length places.new ≤ most) }
+    ensures put { OnOk result ((n : ℕ)
+        → place_in places.new n ≡ (if nat_eq number n then Some place else place_in places.old n)) }
+    ensures bound { OnOk result ((most : ℕ) → number < most → length places.old ≤ most
+        → length places.new ≤ most) }
 {
     while places.len() <= number {
         places.push(None)?;
@@ -37,8 +40,10 @@ fn note(
     place: usize,
     names: &Names,
 ) -> Result<(), AllocError>
-    ensures noted { OnOk result ((n : ℕ) → n < length names.now → place_in places.new n ≡ (if is_named n rule.now then Some place else place_in places.old n)) }
-    ensures bound { OnOk result (length places.old ≤ length names.now → length places.new ≤ length names.now) }
+    ensures noted { OnOk result ((n : ℕ) → n < length names.now
+        → place_in places.new n ≡ (if is_named n rule.now then Some place else place_in places.old n)) }
+    ensures bound { OnOk result (length places.old ≤ length names.now
+        → length places.new ≤ length names.now) }
 {
     match rule.name {
         Some(number) if names.has(number) => put(places, number as usize, place),
@@ -52,7 +57,8 @@ fn places_from(
     rules: &[Rule],
     names: &Names,
 ) -> Result<Items<Option<usize>>, AllocError>
-    ensures found { IfOk result (λ places. (n : ℕ) → n < length names.now → rule_at rules.now (place_in places n) ≡ last_that (is_named n) rules.now) }
+    ensures found { IfOk result (λ places. (n : ℕ) → n < length names.now
+        → rule_at rules.now (place_in places n) ≡ last_that (is_named n) rules.now) }
     ensures bound { IfOk result (λ places. length places ≤ length names.now) }
 {
     let mut places = Items::new(alloc);
@@ -70,7 +76,8 @@ impl RuleTable {
         names: &Names,
     ) -> Result<RuleTable, AllocError>
         ensures rules { IfOk result (λ table. AreRulesOf templates.now table.list) }
-        ensures found { IfOk result (λ table. (n : ℕ) → n < length names.now → rule_at table.list (place_in table.places n) ≡ last_that (is_named n) table.list) }
+        ensures found { IfOk result (λ table. (n : ℕ) → n < length names.now
+            → rule_at table.list (place_in table.places n) ≡ last_that (is_named n) table.list) }
         ensures bound { IfOk result (λ table. length table.places ≤ length names.now) }
     {
         let list = rules_from(alloc, templates)?;
@@ -80,7 +87,8 @@ impl RuleTable {
 
     /// The place of the rule that stands at this number, if there is one.
     pub(crate) fn find(&self, number: u64) -> Option<usize>
-        ensures found { rule_at self.now.list result ≡ rule_at self.now.list (place_in self.now.places number) }
+        ensures found { rule_at self.now.list result
+            ≡ rule_at self.now.list (place_in self.now.places number) }
         ensures within { IfSome result (λ place. place < length self.now.list) }
     {
         match self.places.as_slice().get(number as usize) {

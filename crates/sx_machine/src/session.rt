@@ -1,5 +1,7 @@
 // The session.
-ghost use Rattle.std.specs.Prelude.{◌≡◌, ◌<◌, ◌∷◌, [], ◌++◌, ℕ, List, Bool, true, false, suc, Some, None, length, drop, map, slice_get, IfOk, IfSome, IsErr, OnOk, OnErr};
+ghost use Rattle.std.specs.Prelude.{◌≡◌, ◌<◌, ◌∷◌, [], ◌++◌, ℕ, List, Bool, true};
+ghost use Rattle.std.specs.Prelude.{false, suc, Some, None, length, drop, map, slice_get, IfOk, IfSome};
+ghost use Rattle.std.specs.Prelude.{IsErr, OnOk, OnErr};
 ghost use Rattle.sx_build.specs.Asked.{asked_at};
 ghost use Rattle.sx_kinds.specs.declared.sheets.Sheet.{Sheet as Stylesheet};
 ghost use Rattle.sx_machine.specs.declared.plans.Rule.{Rule as RuleOf};
@@ -7,7 +9,8 @@ ghost use Rattle.sx_machine.specs.declared.session.Job.TheVariants as job;
 ghost use Rattle.sx_machine.specs.declared.session.State.TheVariants as state;
 ghost use Rattle.sx_machine.specs.Choice.{chosen_for, built_in};
 ghost use Rattle.sx_machine.specs.Meaning.{is_copying_first};
-ghost use Rattle.sx_machine.specs.Plan.{read_raws, read_plan, plan_of, job_of, after_rule, after_at, task_of, last_job};
+ghost use Rattle.sx_machine.specs.Plan.{read_raws, read_plan, plan_of, job_of, after_rule, after_at, task_of};
+ghost use Rattle.sx_machine.specs.Plan.{last_job};
 ghost use Rattle.sx_machine.specs.Run.{Ending, ending_with};
 ghost use Rattle.sx_machine.specs.Session.{root_job, first_state, state_of, is_spent_state};
 ghost use Rattle.sx_names.specs.Numbering.{NameTable, KeepsPlaces, IsDistinct};
@@ -130,7 +133,8 @@ fn state_with(error: Option<Code>, otherwise: State) -> State
 
 // What the rule at a place gives behind the children.
 fn behind_in(rules: &[Rule], place: usize) -> &[Raw]
-    ensures { (names : NameTable) → read_raws names result.now ≡ after_rule names (slice_get rules.now place) }
+    ensures { (names : NameTable)
+        → read_raws names result.now ≡ after_rule names (slice_get rules.now place) }
 {
     match rules.get(place) {
         Some(rule) => match &rule.plan.behind {
@@ -153,7 +157,8 @@ fn job_for(plan: &Plan, left: u64) -> Job
 
 // The work for the children of the innermost open element, or for those of the document node.
 fn job_in(frames: &[Frame], root: Job) -> Job
-    ensures { (names : NameTable) (rules : List RuleOf) → result ≡ last_job root (map (task_of names rules) frames.now) }
+    ensures { (names : NameTable) (rules : List RuleOf)
+        → result ≡ last_job root (map (task_of names rules) frames.now) }
 {
     match frames.last() {
         Some(frame) => frame.job,
@@ -164,10 +169,13 @@ fn job_in(frames: &[Frame], root: Job) -> Job
 impl Session {
     ghost use Rattle.sx_machine.specs.Growth.{MayCome};
     ghost use Rattle.sx_machine.specs.Meaning.{IsReady, result_for};
-    ghost use Rattle.sx_machine.specs.Session.{StandsOn, Stands, Wrote, Advances, AdvancesToClose, IsOutput, AllTaken, step_of, is_spent};
-    ghost use Rattle.sx_machine.specs.Steps.{AdvancesBy, AdvancesByClose, AdvancesByEnd, AdvancesByStart, Enters, Invokes, Copies};
+    ghost use Rattle.sx_machine.specs.Session.{StandsOn, Stands, Wrote, Advances, AdvancesToClose, IsOutput};
+    ghost use Rattle.sx_machine.specs.Session.{AllTaken, step_of, is_spent};
+    ghost use Rattle.sx_machine.specs.Steps.{AdvancesBy, AdvancesByClose, AdvancesByEnd, AdvancesByStart};
+    ghost use Rattle.sx_machine.specs.Steps.{Enters, Invokes, Copies};
     ghost use Rattle.sx_named.specs.Named.{NamedElement, named_in_tree, name_at, attributes_at, IsKnown};
-    ghost use Rattle.sx_tree.specs.Tree.{Document, TreeEvent, push, starts, ends, says, instructs, closes, has_open};
+    ghost use Rattle.sx_tree.specs.Tree.{Document, TreeEvent, push, starts, ends, says, instructs, closes};
+    ghost use Rattle.sx_tree.specs.Tree.{has_open};
 
     /// A session of a stylesheet that was fed nothing, where so many invocations of templates may be open at once, one of
     /// them that at the document node. Where there may be none it has stopped with SXLI0001.
@@ -177,7 +185,8 @@ impl Session {
         invocations: u64,
         names: &Names,
     ) -> Result<Session, AllocError>
-        ensures stands { IfOk result (λ s. IsReady sheet.now names.now → IsDistinct names.now → Stands sheet.now names.now invocations s [] 0) }
+        ensures stands { IfOk result (λ s. IsReady sheet.now names.now → IsDistinct names.now
+            → Stands sheet.now names.now invocations s [] 0) }
         ensures spent { IfOk result (λ s. is_spent s ≡ false) }
     {
         Ok(Session {
@@ -390,7 +399,8 @@ impl Session {
     // What comes behind the children of an element is asked for.
     fn leave(&mut self, after: After, names: &Names) -> Result<(), AllocError>
         requires { self.old.state ≡ state.Going }
-        ensures ok { OnOk result (Wrote self.old self.new (after_at names.now self.old.rules.list after).raw) }
+        ensures ok { OnOk result (Wrote self.old self.new
+            (after_at names.now self.old.rules.list after).raw) }
         ensures frames { self.new.frames ≡ self.old.frames }
         ensures kept { OnOk result (is_spent self.new ≡ false) }
     {

@@ -1,6 +1,7 @@
 // Which stylesheets can be streamed.
 ghost use Rattle.std.specs.Prelude.{◌≡◌, ◌+◌, if◌then◌else◌};
-ghost use Rattle.sx_machine.specs.Body.{Body, body_of, instr_in_front, or_else, consumes, consuming_parts, culprit_inside, culprit_of, culprit as culprit_line};
+ghost use Rattle.sx_machine.specs.Body.{Body, body_of, instr_in_front, or_else, consumes, consuming_parts};
+ghost use Rattle.sx_machine.specs.Body.{culprit_inside, culprit_of, culprit as culprit_line};
 ghost use Rattle.sx_tree.specs.declared.events.Label.{Label as NameLabel};
 
 use sx_kinds::{Instr, InstrForm, Sheet};
@@ -33,8 +34,11 @@ fn held_by_element(line: u64, content: &[Instr]) -> Held
 
 #[cycle(judging)]
 fn held_by_instr(instr: &Instr) -> Held
-    ensures culprit { (rest : Body NameLabel) → culprit_inside (instr_in_front instr.now rest) ≡ or_else result.culprit (culprit_inside rest) }
-    ensures parts { (rest : Body NameLabel) → consuming_parts (instr_in_front instr.now rest) ≡ (if result.consumes then 1 else 0) + consuming_parts rest }
+    ensures culprit { (rest : Body NameLabel)
+        → culprit_inside (instr_in_front instr.now rest) ≡ or_else result.culprit (culprit_inside rest) }
+    ensures parts { (rest : Body NameLabel)
+        → consuming_parts (instr_in_front instr.now rest)
+        ≡ (if result.consumes then 1 else 0) + consuming_parts rest }
 {
     match &instr.form {
         InstrForm::Literal { .. } => {

@@ -1,5 +1,6 @@
 // What a session asks of its builder.
-ghost use Rattle.std.specs.Prelude.{◌≡◌, ◌∷◌, [], ◌++◌, ℕ, List, Bool, true, false, reverse, length, drop, OnOk};
+ghost use Rattle.std.specs.Prelude.{◌≡◌, ◌∷◌, [], ◌++◌, ℕ, List, Bool, true, false};
+ghost use Rattle.std.specs.Prelude.{reverse, length, drop, OnOk};
 ghost use Rattle.sx_build.specs.Asked.{Asked, asked_at, all_asked_at};
 ghost use Rattle.sx_build.specs.Build.{Build};
 ghost use Rattle.sx_machine.specs.Writer.{StandsFor, asked_attributes};
@@ -98,7 +99,8 @@ impl Writer {
 
     /// Is told that the content is at its end.
     pub(crate) fn finish(&mut self)
-        ensures { (asked : List Asked) (given : ℕ) → StandsFor self.old asked false given → StandsFor self.new asked true given }
+        ensures { (asked : List Asked) (given : ℕ) → StandsFor self.old asked false given
+            → StandsFor self.new asked true given }
     {
         self.builder.finish();
     }

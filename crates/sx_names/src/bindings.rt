@@ -1,5 +1,6 @@
 // Pairs of a prefix and a URI, of which the last of each prefix is found without a search.
-ghost use Rattle.std.specs.Prelude.{◌≡◌, ℕ, ◌<◌, [], ◌∷◌, length, drop, slice_index_or, None, OnOk, OnErr};
+ghost use Rattle.std.specs.Prelude.{◌≡◌, ℕ, ◌<◌, [], ◌∷◌, length, drop, slice_index_or};
+ghost use Rattle.std.specs.Prelude.{None, OnOk, OnErr};
 ghost use Rattle.std.specs.Option.{option_copied};
 ghost use Rattle.sx_names.specs.Scope.{bound_in};
 
@@ -50,7 +51,8 @@ fn place_of(in_force: &[Option<usize>], number: usize) -> Option<usize>
 
 // Makes room for a number, for which no place stands yet.
 fn cover(in_force: &mut Vec<Option<usize>>, number: usize) -> Result<(), AllocError>
-    ensures same { (n : ℕ) → slice_index_or in_force.new.items n None ≡ slice_index_or in_force.old.items n None }
+    ensures same { (n : ℕ)
+        → slice_index_or in_force.new.items n None ≡ slice_index_or in_force.old.items n None }
     ensures room { OnOk result (number < length in_force.new.items) }
 {
     while in_force.len() <= number {

@@ -1,5 +1,6 @@
 // Names and their numbers. A name is kept as the numbers of its two texts, so that a look-up copies nothing.
-ghost use Rattle.std.specs.Prelude.{◌≡◌, ℕ, Ok, ◌<◌, ◌↔◌, nat_lt, [], length, slice_get, Some, IfSome, IfNone, IfOk, OnErr, MatchResult};
+ghost use Rattle.std.specs.Prelude.{◌≡◌, ℕ, Ok, ◌<◌, ◌↔◌, nat_lt, [], length, slice_get};
+ghost use Rattle.std.specs.Prelude.{Some, IfSome, IfNone, IfOk, OnErr, MatchResult};
 ghost use Rattle.sx_names.specs.Numbering.{IsDistinct, IsAbsent, KeepsPlaces, IsNumbered, uri_at, local_at};
 
 use crate::text_table::Texts;
@@ -68,7 +69,9 @@ impl Names {
     // Gives a new name the next free number.
     fn add(&mut self, uri: &str, local: &str) -> Result<u64, AllocError>
         requires { IsAbsent self.old (uri.now, local.now) }
-        ensures { MatchResult result (λ n. IsNumbered self.old (uri.now, local.now) n self.new) (λ _. self.new ≡ self.old) }
+        ensures { MatchResult result (λ n. IsNumbered self.old (uri.now, local.now) n self.new)
+            (λ _. self.new
+            ≡ self.old) }
     {
         let uri = self.uris.hold(uri)?;
         let local = self.locals.hold(local)?;
@@ -79,7 +82,8 @@ impl Names {
 
     /// The number of the name, or `None` where the name has none.
     pub fn find(&self, uri: &str, local: &str) -> Option<u64>
-        ensures found { (n : ℕ) → (result ≡ Some n) ↔ (slice_get self.now n ≡ Some (uri.now, local.now)) }
+        ensures found { (n : ℕ)
+            → (result ≡ Some n) ↔ (slice_get self.now n ≡ Some (uri.now, local.now)) }
         ensures within { IfSome result (λ n. n < length self.now) }
         ensures absent { IfNone result (IsAbsent self.now (uri.now, local.now)) }
         ensures distinct { IsDistinct self.now }

@@ -1,5 +1,6 @@
 // Texts and their numbers.
-ghost use Rattle.std.specs.Prelude.{◌≡◌, ◌<◌, [], ◌∷◌, length, slice_get, Some, IfSome, IfNone, IfOk, OnErr, MatchResult};
+ghost use Rattle.std.specs.Prelude.{◌≡◌, ◌<◌, [], ◌∷◌, length, slice_get, Some, IfSome};
+ghost use Rattle.std.specs.Prelude.{IfNone, IfOk, OnErr, MatchResult};
 ghost use Rattle.sx_names.specs.Numbering.{IsDistinct, IsAbsent, KeepsPlaces, IsNumbered};
 
 use indexmap::IndexSet;
@@ -69,7 +70,8 @@ impl Texts {
     // Adds a text that is not there.
     fn add(&mut self, text: &str) -> Result<usize, AllocError>
         requires { IsAbsent self.old text.now }
-        ensures { MatchResult result (λ n. IsNumbered self.old text.now n self.new) (λ _. self.new ≡ self.old) }
+        ensures { MatchResult result (λ n. IsNumbered self.old text.now n self.new) (λ _. self.new
+            ≡ self.old) }
     {
         let owned = String::from_str(*self.others.allocator(), text)?;
         let number = self.others.len() + 1;

@@ -66,7 +66,8 @@ impl Reader {
     }
 
     fn begin_mark(&mut self, mark: Mark) -> Result<bool, AllocError>
-        ensures { IfOk result (λ goes. outcome goes (seen self.new) ≡ flat.begin_mark (seen self.old) mark) }
+        ensures { IfOk result (λ goes. outcome goes (seen self.new)
+            ≡ flat.begin_mark (seen self.old) mark) }
     {
         match mark {
             Mark::Operator(Operator::Arith(ArithOp::Mul)) => {
@@ -121,7 +122,8 @@ impl Reader {
     /// `)` behind `(`.
     fn close_empty(&mut self) -> Result<bool, AllocError>
         ensures { IfOk result
-            (λ goes. outcome goes (seen self.new) ≡ flat.close_empty (seen self.old).frames (seen self.old)) }
+            (λ goes. outcome goes (seen self.new)
+            ≡ flat.close_empty (seen self.old).frames (seen self.old)) }
     {
         match self.frames.pop() {
             Some(Frame::Paren) => self.closed(Node::Empty, Role::Plain, Shape::Other),

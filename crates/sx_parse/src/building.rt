@@ -78,7 +78,8 @@ fn joined_by(
 // A path of its front part and what is behind the last `/`.
 fn path(alloc: Global, words: &Wording, a: Expr, b: Expr) -> Result<Expr, AllocError>
     ensures { IfOk result
-        (λ e. e ≡ spec.made (meaning_of words.now) ConstructKind.Path (ExprForm.Path false) (a ∷ b ∷ [])) }
+        (λ e. e
+        ≡ spec.made (meaning_of words.now) ConstructKind.Path (ExprForm.Path false) (a ∷ b ∷ [])) }
 {
     made_of_two(
         alloc,
@@ -300,7 +301,8 @@ fn put_prefix(
     operator: Operator,
     stack: &mut Operands,
 ) -> Result<(), AllocError>
-    ensures { OnOk result (stack.new ≡ stack_of.put (meaning_of words.now) (Node.Prefix operator) stack.old) }
+    ensures { OnOk result (stack.new
+        ≡ stack_of.put (meaning_of words.now) (Node.Prefix operator) stack.old) }
 {
     let e = stack.take(alloc, words);
     stack.put(alloc, begun_by(alloc, words, operator, e)?)
@@ -351,7 +353,8 @@ fn put_binary(
     operator: Operator,
     stack: &mut Operands,
 ) -> Result<(), AllocError>
-    ensures { OnOk result (stack.new ≡ stack_of.put (meaning_of words.now) (Node.Binary operator) stack.old) }
+    ensures { OnOk result (stack.new
+        ≡ stack_of.put (meaning_of words.now) (Node.Binary operator) stack.old) }
 {
     let b = stack.take(alloc, words);
     let a = stack.take(alloc, words);

@@ -1,5 +1,6 @@
 // Expressions.
-ghost use Rattle.std.specs.Prelude.{◌≡◌, ◌<◌, ◌≤◌, ◌+◌, ◌*◌, ◌^◌, Bool, false, length, IfOk, IfErr, OnErr, OnOk, MatchResult};
+ghost use Rattle.std.specs.Prelude.{◌≡◌, ◌<◌, ◌≤◌, ◌+◌, ◌*◌, ◌^◌, Bool, false};
+ghost use Rattle.std.specs.Prelude.{length, IfOk, IfErr, OnErr, OnOk, MatchResult};
 ghost use Rattle.sx_kinds.specs.Formed.{IsFormed};
 ghost use Rattle.sx_names.specs.Numbering.{KeepsPlaces};
 ghost use Rattle.sx_parse.specs.Answers.{IsRefused};
@@ -116,7 +117,8 @@ pub(crate) fn expression(
         (IsRefused false scope.now text.now)) }
     ensures formed { IfOk result (λ r. IfOk r (IsFormed takes_arguments)) }
     ensures grows { OnOk result (at.new.next ≤ at.old.next + 2 * length text.now) }
-    ensures refused { IfOk result (λ r. IfErr r (λ fault. (at.new ≡ at.old) × (names.new ≡ names.old))) }
+    ensures refused { IfOk result (λ r. IfErr r (λ fault. (at.new ≡ at.old)
+        × (names.new ≡ names.old))) }
     ensures failed { OnErr result (at.new ≡ at.old) }
     ensures line { at.new.line ≡ at.old.line }
     ensures kept { KeepsPlaces names.old names.new }
@@ -147,7 +149,8 @@ pub fn parse_expr(
     ensures exactly { IfOk result (AnswersExpression scope.now s.now names.old names.new at.old at.new) }
     ensures formed { IfOk result (λ r. IfOk r (IsFormed takes_arguments)) }
     ensures grows { OnOk result (at.new.next ≤ at.old.next + 2 * length s.now) }
-    ensures refused { IfOk result (λ r. IfErr r (λ fault. (at.new ≡ at.old) × (names.new ≡ names.old))) }
+    ensures refused { IfOk result (λ r. IfErr r (λ fault. (at.new ≡ at.old)
+        × (names.new ≡ names.old))) }
     ensures failed { OnErr result (at.new ≡ at.old) }
     ensures line { at.new.line ≡ at.old.line }
     ensures kept { KeepsPlaces names.old names.new }

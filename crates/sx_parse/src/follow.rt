@@ -44,7 +44,8 @@ impl Reader {
     /// `]`
     fn close_bracket(&mut self) -> Result<bool, AllocError>
         ensures { IfOk result
-            (λ goes. outcome goes (seen self.new) ≡ flat.close_bracket (seen self.old).frames (seen self.old)) }
+            (λ goes. outcome goes (seen self.new)
+            ≡ flat.close_bracket (seen self.old).frames (seen self.old)) }
     {
         match self.frames.pop() {
             Some(Frame::Predicate { more }) => {
@@ -57,7 +58,8 @@ impl Reader {
     /// `else`
     fn otherwise(&mut self) -> Result<bool, AllocError>
         ensures { IfOk result
-            (λ goes. outcome goes (seen self.new) ≡ flat.else_under (seen self.old).frames (seen self.old)) }
+            (λ goes. outcome goes (seen self.new)
+            ≡ flat.else_under (seen self.old).frames (seen self.old)) }
     {
         match self.frames.pop() {
             Some(Frame::Branch) => self.expect(Frame::Otherwise, Role::Plain),
@@ -102,7 +104,8 @@ impl Reader {
 
     /// `return` or `satisfies`
     fn returned(&mut self, lexeme: Lexeme) -> Result<bool, AllocError>
-        ensures { IfOk result (λ goes. outcome goes (seen self.new) ≡ flat.returned (seen self.old) lexeme) }
+        ensures { IfOk result (λ goes. outcome goes (seen self.new)
+            ≡ flat.returned (seen self.old) lexeme) }
     {
         match self.frames.pop() {
             Some(Frame::Binding { binder, name }) if returns(binder, lexeme) => {
@@ -114,7 +117,8 @@ impl Reader {
     }
 
     fn operate(&mut self, operator: Operator) -> Result<bool, AllocError>
-        ensures { IfOk result (λ goes. outcome goes (seen self.new) ≡ flat.operate (seen self.old) operator) }
+        ensures { IfOk result (λ goes. outcome goes (seen self.new)
+            ≡ flat.operate (seen self.old) operator) }
     {
         if self.floor() <= level(operator) {
             self.expect(Frame::Pending(operator), Role::Plain)
@@ -124,7 +128,8 @@ impl Reader {
     }
 
     fn cast_on(&mut self, casting: Casting) -> Result<bool, AllocError>
-        ensures { IfOk result (λ goes. outcome goes (seen self.new) ≡ flat.cast_on (seen self.old) casting) }
+        ensures { IfOk result (λ goes. outcome goes (seen self.new)
+            ≡ flat.cast_on (seen self.old) casting) }
     {
         if self.floor() <= casting_level(casting) {
             self.turn(Mode::Casting(casting), Role::Plain)
@@ -135,7 +140,8 @@ impl Reader {
 
     /// `?` behind the name of a type (XPath 3.1, 3.14.2)
     fn question(&mut self, shape: Shape) -> Result<bool, AllocError>
-        ensures { IfOk result (λ goes. outcome goes (seen self.new) ≡ flat.question (seen self.old) shape) }
+        ensures { IfOk result (λ goes. outcome goes (seen self.new)
+            ≡ flat.question (seen self.old) shape) }
     {
         match shape {
             Shape::Cast {
@@ -209,7 +215,8 @@ impl Reader {
         casting: Casting,
     ) -> Result<bool, AllocError>
         ensures { IfOk result
-            (λ goes. outcome goes (seen self.new) ≡ flat.follow_casting (seen self.old) shape operands casting) }
+            (λ goes. outcome goes (seen self.new)
+            ≡ flat.follow_casting (seen self.old) shape operands casting) }
     {
         let floor = cast_operand_level(casting);
         if !self.in_pattern() && reaches(false, floor, shape) {
@@ -234,7 +241,8 @@ impl Reader {
 
     fn follow_close(&mut self, operands: u64) -> Result<bool, AllocError>
         ensures { IfOk result
-            (λ goes. outcome goes (seen self.new) ≡ flat.close (flat.joined_at 0 (seen self.old) operands)) }
+            (λ goes. outcome goes (seen self.new)
+            ≡ flat.close (flat.joined_at 0 (seen self.old) operands)) }
     {
         let operands = self.reach(0, operands)?;
         self.close(operands)
@@ -289,7 +297,8 @@ impl Reader {
         place: u32,
     ) -> Result<bool, AllocError>
         ensures { IfOk result
-            (λ goes. outcome goes (seen self.new) ≡ flat.follow_name (seen self.old) shape operands word place) }
+            (λ goes. outcome goes (seen self.new)
+            ≡ flat.follow_name (seen self.old) shape operands word place) }
     {
         match word {
             Word::Operator(operator) => {

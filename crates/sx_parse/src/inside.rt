@@ -41,7 +41,8 @@ impl Reader {
         name: u32,
     ) -> Result<bool, AllocError>
         ensures { IfOk result
-            (λ goes. outcome goes (seen self.new) ≡ flat.kind_name (seen self.old) prefix kind place word name) }
+            (λ goes. outcome goes (seen self.new)
+            ≡ flat.kind_name (seen self.old) prefix kind place word name) }
     {
         if takes_name(kind, word) {
             let test = Test::KindOf(kind, place, word, name);
@@ -60,7 +61,8 @@ impl Reader {
         lexeme: Lexeme,
     ) -> Result<bool, AllocError>
         ensures { IfOk result
-            (λ goes. outcome goes (seen self.new) ≡ flat.in_kind (seen self.old) prefix kind place lexeme) }
+            (λ goes. outcome goes (seen self.new)
+            ≡ flat.in_kind (seen self.old) prefix kind place lexeme) }
     {
         match lexeme {
             Lexeme::Mark(Mark::Close) => {
@@ -167,7 +169,8 @@ impl Reader {
     }
 
     fn cast(&mut self, casting: Casting, to: u32) -> Result<bool, AllocError>
-        ensures { IfOk result (λ goes. outcome goes (seen self.new) ≡ flat.cast (seen self.old) casting to) }
+        ensures { IfOk result (λ goes. outcome goes (seen self.new)
+            ≡ flat.cast (seen self.old) casting to) }
     {
         let optional = false;
         let node = Node::Cast {
@@ -185,7 +188,8 @@ impl Reader {
 
     /// `then` (XPath 3.1, 3.10).
     pub fn then_word(&mut self, lexeme: Lexeme) -> Result<bool, AllocError>
-        ensures { IfOk result (λ goes. outcome goes (seen self.new) ≡ flat.then_word (seen self.old) lexeme) }
+        ensures { IfOk result (λ goes. outcome goes (seen self.new)
+            ≡ flat.then_word (seen self.old) lexeme) }
     {
         match lexeme {
             Lexeme::Name(Word::Then, _) => self.expect(Frame::Branch, Role::Plain),

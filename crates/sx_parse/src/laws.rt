@@ -17,15 +17,18 @@ pub fn reading_is_exact()
 /// A text is read or refused, and not both; it has one reading at most, and one refusal.
 pub fn one_answer()
     ensures some { (p : Bool) (scope : ScopeBindings) (text : List ℕ) → laws.IsAnswered p scope text }
-    ensures reading { (p : Bool) (scope : ScopeBindings) (text : List ℕ) → laws.HasOneReading p scope text }
+    ensures reading { (p : Bool) (scope : ScopeBindings) (text : List ℕ)
+        → laws.HasOneReading p scope text }
     ensures either { (p : Bool) (scope : ScopeBindings) (text : List ℕ) → laws.IsNotBoth p scope text }
-    ensures refusal { (p : Bool) (scope : ScopeBindings) (text : List ℕ) → laws.HasOneRefusal p scope text }
+    ensures refusal { (p : Bool) (scope : ScopeBindings) (text : List ℕ)
+        → laws.HasOneRefusal p scope text }
 {}
 
 /// What is read is formed: each expression has as many parts as its form asks for, and each call as many arguments as its function
 /// takes. So are the alternatives of a pattern, and numbers change nothing of that.
 pub fn what_is_read_is_formed()
-    ensures expression { (p : Bool) (scope : ScopeBindings) (text : List ℕ) → laws.SaysFormed p scope text }
+    ensures expression { (p : Bool) (scope : ScopeBindings) (text : List ℕ)
+        → laws.SaysFormed p scope text }
     ensures alternatives { (p : Bool) (scope : ScopeBindings) (text : List ℕ)
         → laws.HasFormedAlternatives p scope text }
     ensures numbered { (n : ℕ) (e : AnyExpr) → laws.KeepsForm e (numbered n e) }

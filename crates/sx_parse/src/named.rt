@@ -39,7 +39,8 @@ impl Reader {
 
     /// The parentheses of `if` (XPath 3.1, 3.10)
     fn open_condition(&mut self) -> Result<bool, AllocError>
-        ensures { IfOk result (λ goes. outcome goes (seen self.new) ≡ flat.open_condition (seen self.old)) }
+        ensures { IfOk result (λ goes. outcome goes (seen self.new)
+            ≡ flat.open_condition (seen self.old)) }
     {
         if !self.in_pattern() && self.floor() <= 1 {
             self.depth = self.depth.saturating_add(1);
@@ -140,7 +141,8 @@ impl Reader {
         lexeme: Lexeme,
     ) -> Result<bool, AllocError>
         ensures { IfOk result
-            (λ goes. outcome goes (seen self.new) ≡ flat.follow_step (seen self.old) prefix word place lexeme) }
+            (λ goes. outcome goes (seen self.new)
+            ≡ flat.follow_step (seen self.old) prefix word place lexeme) }
     {
         self.nodes
             .push(Node::Step(prefix, Test::Named(word, place)))?;
@@ -156,7 +158,8 @@ impl Reader {
         lexeme: Lexeme,
     ) -> Result<bool, AllocError>
         ensures { IfOk result
-            (λ goes. outcome goes (seen self.new) ≡ flat.follow_named (seen self.old) prefix word place lexeme) }
+            (λ goes. outcome goes (seen self.new)
+            ≡ flat.follow_named (seen self.old) prefix word place lexeme) }
     {
         match lexeme {
             Lexeme::Mark(Mark::Open) => self.open_name(prefix, word, place),

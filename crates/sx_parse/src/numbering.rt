@@ -48,7 +48,8 @@ fn is_a_path(form: &ExprForm) -> bool
 fn opened(alloc: Global, expr: Expr, outside: bool, at: &mut Numbering) -> Result<Level, AllocError>
     requires { at.old.next + (numbers_in expr outside).count < 2 ^ 64 }
     ensures expr { IfOk result (λ l. whole l at.new.next ≡ (numbers_in expr outside).from at.old.next) }
-    ensures next { IfOk result (λ l. behind l at.new.next ≡ at.old.next + (numbers_in expr outside).count) }
+    ensures next { IfOk result (λ l. behind l at.new.next
+        ≡ at.old.next + (numbers_in expr outside).count) }
     ensures size { IfOk result (λ l. count expr ≡ suc (counts false (left_of l))) }
     ensures line { at.new.line ≡ at.old.line }
 {

@@ -3,7 +3,8 @@ ghost use Rattle.std.specs.Prelude.{◌≡◌, IfOk};
 ghost use Rattle.sx_names.specs.Numbering.{KeepsPlaces};
 ghost use Rattle.sx_parse.specs.Lexing.{AreParts};
 ghost use Rattle.sx_parse.specs.Naming.{names_with, number_with};
-ghost use Rattle.sx_parse.specs.Numbers.{expanded, names_among, number_in, numbers_among, with_name, with_names};
+ghost use Rattle.sx_parse.specs.Numbers.{expanded, names_among, number_in, numbers_among, with_name};
+ghost use Rattle.sx_parse.specs.Numbers.{with_names};
 
 use crate::functions::uri_or_none;
 use crate::lexing::token_text;
@@ -26,7 +27,8 @@ pub(crate) fn number_names(
 ) -> Result<Items<u64>, AllocError>
     requires { AreParts text.now tokens.now }
     ensures names { IfOk result
-        (λ numbers. names.new ≡ with_names names.old (names_among scope.now text.now roles.now tokens.now)) }
+        (λ numbers. names.new
+        ≡ with_names names.old (names_among scope.now text.now roles.now tokens.now)) }
     ensures numbers { IfOk result
         (λ numbers. numbers ≡ numbers_among names.new scope.now text.now roles.now tokens.now) }
     ensures kept { KeepsPlaces names.old names.new }

@@ -1,5 +1,6 @@
 // Patterns.
-ghost use Rattle.std.specs.Prelude.{◌≡◌, ℕ, ◌<◌, ◌≤◌, ◌+◌, ◌*◌, ◌^◌, true, length, IfOk, IfErr, OnErr, OnOk};
+ghost use Rattle.std.specs.Prelude.{◌≡◌, ℕ, ◌<◌, ◌≤◌, ◌+◌, ◌*◌, ◌^◌, true};
+ghost use Rattle.std.specs.Prelude.{length, IfOk, IfErr, OnErr, OnOk};
 ghost use Rattle.sx_kinds.specs.Formed.{AreFormed};
 ghost use Rattle.sx_names.specs.Numbering.{KeepsPlaces};
 ghost use Rattle.sx_parse.specs.Checks.{takes_arguments};
@@ -111,7 +112,8 @@ pub fn parse_pattern(
     ensures exactly { IfOk result (AnswersPattern scope.now s.now names.old names.new at.old at.new) }
     ensures formed { IfOk result (λ r. IfOk r (λ q. AreFormed takes_arguments q.alternatives)) }
     ensures grows { OnOk result (at.new.next ≤ at.old.next + 2 * length s.now) }
-    ensures refused { IfOk result (λ r. IfErr r (λ fault. (at.new ≡ at.old) × (names.new ≡ names.old))) }
+    ensures refused { IfOk result (λ r. IfErr r (λ fault. (at.new ≡ at.old)
+        × (names.new ≡ names.old))) }
     ensures failed { OnErr result (at.new ≡ at.old) }
     ensures line { at.new.line ≡ at.old.line }
     ensures kept { KeepsPlaces names.old names.new }

@@ -94,7 +94,8 @@ impl Reader {
 
     /// A token after which something else has to come.
     pub fn turn(&mut self, mode: Mode, role: Role) -> Result<bool, AllocError>
-        ensures { IfOk result (λ goes. outcome goes (seen self.new) ≡ flat.turn (seen self.old) mode role) }
+        ensures { IfOk result (λ goes. outcome goes (seen self.new)
+            ≡ flat.turn (seen self.old) mode role) }
     {
         self.roles.push(role)?;
         self.mode = mode;

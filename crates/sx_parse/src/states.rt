@@ -72,7 +72,8 @@ impl Reader {
     /// Whether nothing is open behind an operand.
     fn whole(&mut self, operands: u64) -> Result<bool, AllocError>
         ensures { IfOk result
-            (λ goes. outcome goes (seen self.new) ≡ flat.whole (flat.joined_at 0 (seen self.old) operands).flat) }
+            (λ goes. outcome goes (seen self.new)
+            ≡ flat.whole (flat.joined_at 0 (seen self.old) operands).flat) }
     {
         self.reach(0, operands)?;
         Ok(self.is_closed())

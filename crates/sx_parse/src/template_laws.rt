@@ -6,9 +6,11 @@ ghost use Rattle.sx_parse.specs.declared.faults.SyntaxFault.{SyntaxFault as AnyF
 /// A value template has one list of pieces, up to its end or to the brace that nothing matches, which is one fault and at which it
 /// does not end.
 pub fn one_template()
-    ensures pieces { (text rest more : List ℕ) (ps qs : List Piece) → IsCut text ps rest → IsCut text qs more
+    ensures pieces { (text rest more : List ℕ) (ps qs : List Piece) → IsCut text ps rest
+        → IsCut text qs more
         → (ps ≡ qs) × (rest ≡ more) }
-    ensures either { (offset : ℕ) (rest : List ℕ) (fault : AnyFault) → Ends rest → Breaks offset rest fault
+    ensures either { (offset : ℕ) (rest : List ℕ) (fault : AnyFault) → Ends rest
+        → Breaks offset rest fault
         → ⊥ }
     ensures fault { (offset : ℕ) (rest : List ℕ) (a b : AnyFault) → Breaks offset rest a
         → Breaks offset rest b → a ≡ b }

@@ -1,6 +1,7 @@
 // The pieces of value templates.
 ghost use Rattle.std.specs.List.{prefix_len};
-ghost use Rattle.std.specs.Prelude.{◌≡◌, ◌+◌, ◌<◌, ◌≤◌, false, true, not, drop, length, slice_index, IfOk, MatchOption};
+ghost use Rattle.std.specs.Prelude.{◌≡◌, ◌+◌, ◌<◌, ◌≤◌, false, true, not, drop, length};
+ghost use Rattle.std.specs.Prelude.{slice_index, IfOk, MatchOption};
 ghost use Rattle.std.specs.Str.{IsCharBoundary};
 ghost use Rattle.sx_parse.specs.Templates.{begins_with, closes_in, IsClosedFront, IsNext, StopsFixed};
 ghost use Rattle.sx_parse.specs.Templates as spec;

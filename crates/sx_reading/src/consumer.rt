@@ -55,32 +55,38 @@ pub trait Consumer {
 
     /// Takes the next bytes.
     fn feed(&mut self, piece: &[u8]) -> Result<(), AllocError>
-        ensures fed { OnOk result ((written : WrittenFor) (outcome : OutcomeFor) (b w : List ℕ) → stands self.old written outcome b false w
+        ensures fed { OnOk result ((written : WrittenFor) (outcome : OutcomeFor) (b w : List ℕ)
+            → stands self.old written outcome b false w
             → stands self.new written outcome (b ++ piece.now) false w) }
         ensures keeps { keeps self.old self.new };
 
     /// Is told that the input has ended.
     fn finish(&mut self) -> Result<(), AllocError>
-        ensures ended { OnOk result ((written : WrittenFor) (outcome : OutcomeFor) (b w : List ℕ) → stands self.old written outcome b false w
+        ensures ended { OnOk result ((written : WrittenFor) (outcome : OutcomeFor) (b w : List ℕ)
+            → stands self.old written outcome b false w
             → stands self.new written outcome b true w) }
         ensures keeps { keeps self.old self.new };
 
     /// What can be written and was not taken yet.
     fn output(&self) -> &[u8]
-        ensures { (written : WrittenFor) (outcome : OutcomeFor) (b w : List ℕ) (ended : Bool) → stands self.now written outcome b ended w
+        ensures { (written : WrittenFor) (outcome : OutcomeFor) (b w : List ℕ) (ended : Bool)
+            → stands self.now written outcome b ended w
             → w ++ result.now ≡ written b ended };
 
     /// Counts the output as taken.
     fn clear_output(&mut self)
-        ensures taken { (written : WrittenFor) (outcome : OutcomeFor) (b w : List ℕ) (ended : Bool) → stands self.old written outcome b ended w
+        ensures taken { (written : WrittenFor) (outcome : OutcomeFor) (b w : List ℕ) (ended : Bool)
+            → stands self.old written outcome b ended w
             → stands self.new written outcome b ended (written b ended) }
         ensures keeps { keeps self.old self.new };
 
     /// Where the bytes end, if they do.
     fn outcome(&self) -> Option<Outcome>
-        ensures is { (written : WrittenFor) (outcome : OutcomeFor) (b w : List ℕ) (ended : Bool) → stands self.now written outcome b ended w
+        ensures is { (written : WrittenFor) (outcome : OutcomeFor) (b w : List ℕ) (ended : Bool)
+            → stands self.now written outcome b ended w
             → result ≡ outcome b ended }
-        ensures meaning { (written : WrittenFor) (outcome : OutcomeFor) (b w : List ℕ) (ended : Bool) → stands self.now written outcome b ended w
+        ensures meaning { (written : WrittenFor) (outcome : OutcomeFor) (b w : List ℕ) (ended : Bool)
+            → stands self.now written outcome b ended w
             → IsMeaning written outcome };
 
     /// It keeps what it has.

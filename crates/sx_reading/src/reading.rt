@@ -1,5 +1,6 @@
 // The reading loop: before each read all that can be written is written.
-ghost use Rattle.std.specs.Prelude.{◌≡◌, ◌≢◌, ◌<◌, ◌≤◌, ◌++◌, [], List, ℕ, Bool, false, IsTrue, OnOk, length};
+ghost use Rattle.std.specs.Prelude.{◌≡◌, ◌≢◌, ◌<◌, ◌≤◌, ◌++◌, [], List, ℕ, Bool};
+ghost use Rattle.std.specs.Prelude.{false, IsTrue, OnOk, length};
 ghost use Rattle.sx_desk.specs.Desk.{Seen};
 ghost use Rattle.sx_desk.specs.declared.desk.Out.TheVariants as out;
 ghost use Rattle.sx_reading.specs.Frame.{Frame};
@@ -34,7 +35,8 @@ fn advance<C: Consumer>(consumer: &mut C, piece: &[u8]) -> Result<(), AllocError
 // Writes all that can be written, and says how the loop ends where it does.
 fn flush<D: Desk, C: Consumer>(desk: &mut D, consumer: &mut C) -> Option<Status>
     ensures frame { (file : ℕ) → Frame file out.Result (D.seen desk.old) (D.seen desk.new) }
-    ensures after { FlushesFor (C.stands consumer.old) (C.stands consumer.new) (D.seen desk.old) (D.seen desk.new) result }
+    ensures after { FlushesFor (C.stands consumer.old) (C.stands consumer.new) (D.seen desk.old)
+        (D.seen desk.new) result }
     ensures keeps { C.keeps consumer.old consumer.new }
 {
     match write_all(desk, Out::Result, consumer.output()) {
@@ -59,7 +61,8 @@ fn take_turn<D: Desk, C: Consumer>(
     requires small { length buffer.old ≤ most_read }
     requires given { file < length (D.seen desk.old).opened }
     ensures frame { Frame file out.Result (D.seen desk.old) (D.seen desk.new) }
-    ensures after { TurnsFor (C.stands consumer.old) (C.stands consumer.new) file (D.seen desk.old) (D.seen desk.new) result }
+    ensures after { TurnsFor (C.stands consumer.old) (C.stands consumer.new) file (D.seen desk.old)
+        (D.seen desk.new) result }
     ensures keeps { C.keeps consumer.old consumer.new }
 {
     let count = match desk.read(file, buffer) {
@@ -81,7 +84,8 @@ fn run<D: Desk, C: Consumer>(file: u32, desk: &mut D, consumer: &mut C, buffer: 
     requires untouched { IsTrue (D.seen desk.old).told → (D.seen desk.old).taken file ≡ 0 }
     ensures frame { Frame file out.Result (D.seen desk.old) (D.seen desk.new) }
     ensures runs { TransformsFor (C.stands consumer.old) file (D.seen desk.old) (D.seen desk.new) result }
-    ensures left { LeavesFor (C.stands consumer.old) (C.stands consumer.new) file (D.seen desk.old) (D.seen desk.new) result }
+    ensures left { LeavesFor (C.stands consumer.old) (C.stands consumer.new) file (D.seen desk.old)
+        (D.seen desk.new) result }
     ensures keeps { C.keeps consumer.old consumer.new }
 {
     match flush(desk, consumer) {
@@ -117,7 +121,8 @@ pub fn transfer<D: Desk, C: Consumer>(
     requires untouched { IsTrue (D.seen desk.old).told → (D.seen desk.old).taken file ≡ 0 }
     ensures frame { Frame file out.Result (D.seen desk.old) (D.seen desk.new) }
     ensures runs { TransformsFor (C.stands consumer.old) file (D.seen desk.old) (D.seen desk.new) result }
-    ensures left { LeavesFor (C.stands consumer.old) (C.stands consumer.new) file (D.seen desk.old) (D.seen desk.new) result }
+    ensures left { LeavesFor (C.stands consumer.old) (C.stands consumer.new) file (D.seen desk.old)
+        (D.seen desk.new) result }
     ensures keeps { C.keeps consumer.old consumer.new }
 {
     match vec![in alloc; 0u8; PIECE] {

@@ -1,7 +1,8 @@
 // How a call of the program ended.
 ghost use Rattle.std.specs.Prelude.{◌≡◌, ◌+◌, ◌≤◌, ◌++◌, length};
 ghost use Rattle.arrayvec.specs.ArrayVec.{array_vec_len};
-ghost use Rattle.sx_reading.specs.Answers.{number_of, diagnostic_of, static_line, dynamic_line, fault_line, input_name};
+ghost use Rattle.sx_reading.specs.Answers.{number_of, diagnostic_of, static_line, dynamic_line, fault_line};
+ghost use Rattle.sx_reading.specs.Answers.{input_name};
 
 use arrayvec::ArrayVec;
 use itoa::Buffer;

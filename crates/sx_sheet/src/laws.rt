@@ -6,12 +6,14 @@ ghost use Rattle.sx_sheet.specs.Tokens.{Token, LinedToken};
 
 /// What breaks off is no thin stylesheet.
 pub fn broken_or_thin()
-    ensures { (lined : List LinedToken) (line : ℕ) → BreaksOn lined line → IsThin (tokens_in lined) → ⊥ }
+    ensures { (lined : List LinedToken) (line : ℕ) → BreaksOn lined line → IsThin (tokens_in lined)
+        → ⊥ }
 {}
 
 /// What breaks off does so at one place only.
 pub fn one_break()
-    ensures { (tokens : List Token) (a b : ℕ) → BreaksBehind tokens a → BreaksBehind tokens b → a ≡ b }
+    ensures { (tokens : List Token) (a b : ℕ) → BreaksBehind tokens a → BreaksBehind tokens b
+        → a ≡ b }
 {}
 
 /// What breaks off does so on one line only.
@@ -21,5 +23,6 @@ pub fn one_line()
 
 /// Where the input has ended, what breaks off does so on the line of one of its tokens.
 pub fn on_a_token()
-    ensures { (lined : List LinedToken) (line : ℕ) → IsClosed (tokens_in lined) → BreaksOn lined line → Contains (lines_in lined) line }
+    ensures { (lined : List LinedToken) (line : ℕ) → IsClosed (tokens_in lined) → BreaksOn lined line
+        → Contains (lines_in lined) line }
 {}

@@ -1,5 +1,6 @@
 // A reader of thin stylesheets, token by token.
-ghost use Rattle.std.specs.Prelude.{◌≡◌, ◌+◌, ◌≤◌, ◌<◌, ◌^◌, List, ℕ, IfOk, IfSome, Option, option_map, reverse};
+ghost use Rattle.std.specs.Prelude.{◌≡◌, ◌+◌, ◌≤◌, ◌<◌, ◌^◌, List, ℕ, IfOk, IfSome};
+ghost use Rattle.std.specs.Prelude.{Option, option_map, reverse};
 ghost use Rattle.sx_named.specs.Named.{Name};
 ghost use Rattle.sx_names.specs.Numbering.{NameTable, KeepsPlaces};
 ghost use Rattle.sx_sheet.specs.Machine as machine;
@@ -181,7 +182,9 @@ impl Reader {
     ) -> Result<Option<Reader>, AllocError>
         requires { self.constructs < 2 ^ 62 }
         ensures kept { KeepsPlaces names.old names.new }
-        ensures step { IfOk result (λ r. StepsAs (λ look state. machine.between look line state (shown names.old token.entry)) names.new self r) }
+        ensures step { IfOk result
+            (λ r. StepsAs (λ look state. machine.between look line state (shown names.old token.entry))
+            names.new self r) }
         ensures near { IfOk result (λ r. IfSome r (λ n. n.constructs ≤ self.constructs + 2)) }
     {
         match token {
@@ -210,7 +213,8 @@ impl Reader {
         line: u64,
     ) -> Result<Reader, AllocError>
         requires { self.constructs < 2 ^ 62 }
-        ensures step { IfOk result (λ r. StepsTo (λ state. machine.with_literal line template state number) self r) }
+        ensures step { IfOk result
+            (λ r. StepsTo (λ state. machine.with_literal line template state number) self r) }
         ensures near { IfOk result (λ r. r.constructs ≤ self.constructs + 2) }
     {
         let mut outer = self.outer;
@@ -235,7 +239,9 @@ impl Reader {
         alloc: Global,
         template_start: TemplateStart,
     ) -> Result<Reader, AllocError>
-        ensures step { IfOk result (λ r. StepsTo (λ state. machine.end_innermost template_start state (reverse self.outer)) self r) }
+        ensures step { IfOk result
+            (λ r. StepsTo (λ state. machine.end_innermost template_start state (reverse self.outer)) self
+            r) }
         ensures near { IfOk result (λ r. r.constructs ≡ self.constructs) }
     {
         let mut outer = self.outer;
@@ -281,7 +287,9 @@ impl Reader {
         line: u64,
     ) -> Result<Option<Reader>, AllocError>
         requires { self.constructs < 2 ^ 62 }
-        ensures step { IfOk result (λ r. StepsAt (λ look state shows. machine.inside look line template state shows) token.entry self r) }
+        ensures step { IfOk result
+            (λ r. StepsAt (λ look state shows. machine.inside look line template state shows) token.entry
+            self r) }
         ensures near { IfOk result (λ r. IfSome r (λ n. n.constructs ≤ self.constructs + 2)) }
     {
         match token {
@@ -336,7 +344,8 @@ impl Reader {
         construct: Construct,
         token: Token<'_>,
     ) -> Result<Option<Reader>, AllocError>
-        ensures step { IfOk result (λ r. StepsWithout (machine.in_text template construct) token.entry self r) }
+        ensures step { IfOk result
+            (λ r. StepsWithout (machine.in_text template construct) token.entry self r) }
         ensures near { IfOk result (λ r. IfSome r (λ n. n.constructs ≤ self.constructs + 2)) }
     {
         match token {
@@ -365,7 +374,9 @@ impl Reader {
         requires small { self.constructs < 2 ^ 62 }
         requires known { IsShown names.old token }
         ensures kept { KeepsPlaces names.old names.new }
-        ensures step { IfOk result (λ r. StepsAs (λ look state. machine.step look line state (shown names.old token.entry)) names.new self r) }
+        ensures step { IfOk result
+            (λ r. StepsAs (λ look state. machine.step look line state (shown names.old token.entry))
+            names.new self r) }
         ensures near { IfOk result (λ r. IfSome r (λ n. n.constructs ≤ self.constructs + 2)) }
     {
         match self.stage {

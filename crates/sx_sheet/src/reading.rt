@@ -47,7 +47,8 @@ fn thin_modes(alloc: Global, no_match: OnNoMatch) -> Result<Modes, AllocError>
 }
 
 fn sheet(alloc: Global, reader: Reader) -> Result<Sheet, AllocError>
-    ensures { IfOk result (λ s. s ≡ numbers.sheet_with reader.no_match reader.templates reader.constructs) }
+    ensures { IfOk result (λ s. s
+        ≡ numbers.sheet_with reader.no_match reader.templates reader.constructs) }
 {
     Ok(Sheet {
         modes: thin_modes(alloc, reader.no_match)?,
@@ -73,9 +74,11 @@ pub fn read(
 ) -> Result<Result<Sheet, StaticFault>, AllocError>
     ensures kept { KeepsPlaces names.old names.new }
     ensures distinct { IsDistinct names.new }
-    ensures sheet { IfOk result (λ answer. IfOk answer (λ sheet. AreKnown names.old events.now → IsSheetOf (tokens_of names.old events.now) names.new sheet)) }
+    ensures sheet { IfOk result (λ answer. IfOk answer (λ sheet. AreKnown names.old events.now
+        → IsSheetOf (tokens_of names.old events.now) names.new sheet)) }
     ensures fault { IfOk result (λ answer. IfErr answer (λ f. f.code ≡ Xtse0010)) }
-    ensures line { IfOk result (λ answer. IfErr answer (λ f. AreKnown names.old events.now → BreaksOn (tokens_of names.old events.now) f.line)) }
+    ensures line { IfOk result (λ answer. IfErr answer (λ f. AreKnown names.old events.now
+        → BreaksOn (tokens_of names.old events.now) f.line)) }
 {
     let read = run(alloc, events, names);
     names.each_once();

@@ -17,7 +17,8 @@ pub(crate) fn run(
     names: &mut Names,
 ) -> Result<Result<Reader, u64>, AllocError>
     ensures kept { KeepsPlaces names.old names.new }
-    ensures results { IfOk result (λ r. AreKnown names.old events.now → Results names.old names.new events.now r) }
+    ensures results { IfOk result (λ r. AreKnown names.old events.now
+        → Results names.old names.new events.now r) }
 {
     let mut reader = Reader::new(alloc);
     let mut in_text = false;

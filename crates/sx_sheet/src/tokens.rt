@@ -1,5 +1,6 @@
 // What the events of a stylesheet say.
-ghost use Rattle.std.specs.Prelude.{◌≡◌, ◌&&◌, ◌==◌, not, [], ◌<◌, ℕ, List, length, bytes_eq, Option, option_map, IfSome};
+ghost use Rattle.std.specs.Prelude.{◌≡◌, ◌&&◌, ◌==◌, not, [], ◌<◌, ℕ, List, length};
+ghost use Rattle.std.specs.Prelude.{bytes_eq, Option, option_map, IfSome};
 ghost use Rattle.std.specs.List.{list_all};
 ghost use Rattle.sx_chars.specs.Names as chars;
 ghost use Rattle.sx_names.specs.Numbering.{NameTable, uri_at, local_at};
@@ -68,7 +69,8 @@ fn name_of(names: &Names, number: u64) -> (&str, &str)
 
 // Whether the name with a number is in no namespace and has this local name.
 fn is_plain(names: &Names, number: u64, local: &str) -> bool
-    ensures { result ≡ (said.is_empty (uri_at names.now number) && bytes_eq (local_at names.now number) local.now) }
+    ensures { result
+        ≡ (said.is_empty (uri_at names.now number) && bytes_eq (local_at names.now number) local.now) }
 {
     let (uri, name) = name_of(names, number);
     uri.is_empty() && name == local
@@ -76,7 +78,8 @@ fn is_plain(names: &Names, number: u64, local: &str) -> bool
 
 // The value of the attribute of this local name in no namespace.
 fn value_of<'a>(attrs: &'a [Attr], names: &Names, local: &str) -> Option<&'a str>
-    ensures { option_map (λ v. v.now) result ≡ said.value_of (attributes_at names.now attrs.now) local.now }
+    ensures { option_map (λ v. v.now) result
+        ≡ said.value_of (attributes_at names.now attrs.now) local.now }
 {
     for attr in attrs {
         if is_plain(names, attr.label.number, local) {
@@ -139,7 +142,8 @@ fn template_token<'a>(attrs: &'a [Attr], names: &Names) -> Token<'a>
 
 // A start without attributes.
 fn if_bare<'a>(attrs: &[Attr], token: Token<'a>) -> Token<'a>
-    ensures { (names : NameTable) → shown names result ≡ said.if_bare (attributes_at names attrs.now) (shown names token.entry) }
+    ensures { (names : NameTable)
+        → shown names result ≡ said.if_bare (attributes_at names attrs.now) (shown names token.entry) }
 {
     if attrs.is_empty() {
         token
@@ -169,7 +173,9 @@ fn is_unprefixed(label: &Label) -> bool
 }
 
 fn start_token<'a>(label: &Label, attrs: &'a [Attr], names: &Names) -> Token<'a>
-    ensures token { shown names.now result ≡ said.start_token (record { name = name_at names.now label.now; attributes = attributes_at names.now attrs.now; spaces = [] }) }
+    ensures token { shown names.now result
+        ≡ said.start_token (record { name = name_at names.now label.now; attributes = attributes_at
+        names.now attrs.now; spaces = [] }) }
 {
     let (uri, local) = name_of(names, label.number);
     if uri == XSLT_NAMESPACE {

@@ -1,5 +1,6 @@
 // The spine: the open nodes, and the last node that cannot be open.
-ghost use Rattle.std.specs.Prelude.{◌≡◌, ◌<◌, ◌≤◌, ◌↔◌, [], ◌∷◌, ◌++◌, None, length, IsOk, IfErr, OnOk, OnErr};
+ghost use Rattle.std.specs.Prelude.{◌≡◌, ◌<◌, ◌≤◌, ◌↔◌, [], ◌∷◌, ◌++◌, None};
+ghost use Rattle.std.specs.Prelude.{length, IsOk, IfErr, OnOk, OnErr};
 ghost use Rattle.sx_tree.specs.declared.ancestors.SpineItem.TheVariants as spine_item;
 
 use crate::{Attrs, Chars, Label};

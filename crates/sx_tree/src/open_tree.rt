@@ -1,5 +1,6 @@
 // A tree that grows by events, and the tree that no event changes any more.
-ghost use Rattle.std.specs.Prelude.{◌≡◌, ◌<◌, ◌+◌, ◌-◌, ◌^◌, ◌↔◌, min, false, [], ◌∷◌, ◌++◌, IsOk, IsErr, IfOk, IfErr, OnOk, OnErr};
+ghost use Rattle.std.specs.Prelude.{◌≡◌, ◌<◌, ◌+◌, ◌-◌, ◌^◌, ◌↔◌, min, false, []};
+ghost use Rattle.std.specs.Prelude.{◌∷◌, ◌++◌, IsOk, IsErr, IfOk, IfErr, OnOk, OnErr};
 ghost use Rattle.sx_tree.specs.Events.{Element, MayFollow, tree_event, tree_events};
 ghost use Rattle.sx_tree.specs.OpenTree.{tree, closed_tree, has_open_node, node_count, document_count};
 ghost use Rattle.sx_tree.specs.Tree as spec;
@@ -64,7 +65,8 @@ fn begun_nodes(event: &Event) -> u64
 
 // Whether the document node is open after an event.
 fn stays_open(is_open: bool, event: &Event) -> bool
-    ensures { (d : spec.Document Element) → is_open ≡ d.is_open → result ≡ (spec.push d (tree_event event.now)).is_open }
+    ensures { (d : spec.Document Element) → is_open ≡ d.is_open
+        → result ≡ (spec.push d (tree_event event.now)).is_open }
 {
     match event {
         Event::Close => false,
@@ -97,9 +99,12 @@ impl OpenTree {
     pub fn push(&mut self, event: &Event) -> Result<Result<(), Full>, AllocError>
         requires { MayFollow (tree_events self.old.events) (tree_event event.now) }
         ensures limit { self.new.limit ≡ self.old.limit }
-        ensures events { IfOk result (λ answer. OnOk answer (self.new.events ≡ self.old.events ++ event.now ∷ [])) }
-        ensures ok { IfOk result (λ answer. OnOk answer (tree self.new ≡ spec.push (tree self.old) (tree_event event.now))) }
-        ensures exactly { IfOk result (λ answer. IsErr answer ↔ (self.old.limit < document_count (spec.push (tree self.old) (tree_event event.now)))) }
+        ensures events { IfOk result (λ answer. OnOk answer (self.new.events
+            ≡ self.old.events ++ event.now ∷ [])) }
+        ensures ok { IfOk result (λ answer. OnOk answer (tree self.new
+            ≡ spec.push (tree self.old) (tree_event event.now))) }
+        ensures exactly { IfOk result (λ answer. IsErr answer
+            ↔ (self.old.limit < document_count (spec.push (tree self.old) (tree_event event.now)))) }
         ensures full { IfOk result (λ answer. OnErr answer (self.new ≡ self.old)) }
         ensures err { OnErr result (self.new ≡ self.old) }
     {

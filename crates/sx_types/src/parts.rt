@@ -1,6 +1,7 @@
 // What is known of the parts of an expression together.
 ghost use Rattle.std.specs.Prelude.{◌≡◌, ◌||◌, List, [], ◌∷◌, ◌++◌};
-ghost use Rattle.sx_kinds.specs.Types.{is_positional, is_same_start, is_source, joined_start, parts_of, there};
+ghost use Rattle.sx_kinds.specs.Types.{is_positional, is_same_start, is_source, joined_start, parts_of};
+ghost use Rattle.sx_kinds.specs.Types.{there};
 ghost use Rattle.sx_kinds.specs.declared.types.Typing.{Typing};
 ghost use Rattle.sx_types.specs.Added as spec;
 
@@ -140,7 +141,8 @@ fn either(a: bool, b: bool) -> bool
 
 /// The parts and one more behind them.
 pub fn and_one(before: &Parts, part: &Typing) -> Parts
-    ensures { (ts : List Typing) → before.now ≡ parts_of ts → result ≡ parts_of (ts ++ part.now ∷ []) }
+    ensures { (ts : List Typing) → before.now ≡ parts_of ts
+        → result ≡ parts_of (ts ++ part.now ∷ []) }
 {
     Parts {
         first: first_with(before.first, part),

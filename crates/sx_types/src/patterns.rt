@@ -22,7 +22,8 @@ fn settle_alternative(
     done: &mut Exprs,
 ) -> Result<Result<(), Code>, AllocError>
     ensures { IfOk result (λ after. let made = next_alternative (place_of place.now) known e.now in
-        (done.new ≡ done.old ++ made ∷ []) × (after ≡ spec.have_types place.now.context known (made ∷ []))) }
+        (done.new ≡ done.old ++ made ∷ [])
+        × (after ≡ spec.have_types place.now.context known (made ∷ []))) }
 {
     match known {
         Err(code) => {

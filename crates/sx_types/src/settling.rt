@@ -1,5 +1,6 @@
 // Settling expressions.
-ghost use Rattle.std.specs.Prelude.{◌≡◌, ◌<◌, ◌≤◌, ◌∷◌, ◌++◌, [], Ok, List, Result, IfOk, OnErr, OnOk, drop};
+ghost use Rattle.std.specs.Prelude.{◌≡◌, ◌<◌, ◌≤◌, ◌∷◌, ◌++◌, [], Ok, List, Result};
+ghost use Rattle.std.specs.Prelude.{IfOk, OnErr, OnOk, drop};
 ghost use Rattle.sx_atoms.specs.declared.error_codes.Code.{Code as AnyCode};
 ghost use Rattle.sx_kinds.specs.Settled as spec;
 ghost use Rattle.sx_kinds.specs.Types.{focus as focus_of, type_of};
@@ -8,7 +9,8 @@ ghost use Rattle.sx_kinds.specs.declared.types.Typing.{Typing as AnyTyping};
 ghost use Rattle.sx_kinds.specs.Ways.{front, levels};
 ghost use Rattle.sx_kinds.specs.declared.walks.Way.TheVariants.{OneFocus};
 ghost use Rattle.sx_types.specs.Places.{place_of};
-ghost use Rattle.sx_types.specs.Settling.{Adds, AreKnown, IsBegun, IsSettledAt, finished_in, known_after, known_from, next_part, together};
+ghost use Rattle.sx_types.specs.Settling.{Adds, AreKnown, IsBegun, IsSettledAt, finished_in, known_after};
+ghost use Rattle.sx_types.specs.Settling.{known_from, next_part, together};
 
 use crate::forms::{focus, known_by};
 use crate::parts::{and_one, none};
@@ -281,7 +283,8 @@ pub fn settle(
 ) -> Result<Result<(), Code>, AllocError>
     ensures settled { IfOk result (λ answer.
         e.new ≡ spec.settled e.old (spec.place context.now group.now vars.now)) }
-    ensures stays { IfOk result (λ answer. spec.IsSettled e.new (spec.place context.now group.now vars.now)) }
+    ensures stays { IfOk result
+        (λ answer. spec.IsSettled e.new (spec.place context.now group.now vars.now)) }
     ensures answer { IfOk result (λ answer. answer ≡ spec.without_type (type_of e.new context.now)) }
     ensures unchanged { OnErr result (e.new ≡ e.old) }
 {
