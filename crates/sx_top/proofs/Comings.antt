@@ -1,5 +1,6 @@
 -- The events of bytes: they may come one by one, and more bytes only add to them.
-use Rattle.std.proofs.Common.{◌≡◌, ◌≢◌, inl, inr, ℕ, zero, suc, ◌<◌, Bool, true, false, List, [], ◌∷◌, ◌++◌, length, slice_get, Option, Some, None, is_some, refl, ap, ◌∙◌, subst}
+use Rattle.std.proofs.Common.{◌≡◌, ◌≢◌, inl, inr, ℕ, zero, suc, nat_lt, ◌<◌, Bool, true, false, List, [], ◌∷◌, ◌++◌, length, slice_get, Option, Some, None, is_some, refl, ap, ◌∙◌, subst, arith}
+use Rattle.std.proofs.lemmas.Bool.{le-ltb}
 use Rattle.std.proofs.lemmas.List.{map-append}
 use Rattle.sx_tree.specs.Events.{MayFollow, IsAllowed}
 use Rattle.sx_named.specs.Named.{ElementStart, NamedElement, started, in_tree, all_in_tree}
@@ -30,6 +31,17 @@ in_tree_at (k ∷ hs) zero h at =
     ap (λ (x : TreeEvent ElementStart). Some (in_tree x)) same
 in_tree_at (k ∷ hs) (suc n) h at = in_tree_at hs n h at
 
+-- ---- before all bytes
+
+none_below : (n : ℕ) → nat_lt n 0 ≡ false
+none_below n = le-ltb n 0 (omega arith)
+
+pub no_lines : (limits : Limits) → events_of limits [] false ≡ []
+no_lines limits = rw (none_below limits.bytes) (rw (none_below limits.line) refl)
+
+pub no_break : (limits : Limits) → break_of limits [] false ≡ None
+no_break limits = rw (none_below limits.bytes) (rw (none_below limits.line) refl)
+
 -- ---- each may come behind those before it
 
 closes_whole : (p : Happenings) (h : TreeEvent NamedElement) → IsAllowed p h → ClosesWhole (tree_of p) h
@@ -39,10 +51,10 @@ closes_whole p (says s) a = tt
 closes_whole p (instructs target content) a = tt
 closes_whole p closes a = a
 
-may_come : (p : Happenings) (h : TreeEvent NamedElement) → MayFollow p h → MayCome p h
+pub may_come : (p : Happenings) (h : TreeEvent NamedElement) → MayFollow p h → MayCome p h
 may_come p h m = record { not_closed = m.not_closed; whole = closes_whole p h m.allowed }
 
-all_come : (p hs : List (TreeEvent ElementStart)) → AllFollow p hs → MayAllCome (all_in_tree p) (all_in_tree hs)
+pub all_come : (p hs : List (TreeEvent ElementStart)) → AllFollow p hs → MayAllCome (all_in_tree p) (all_in_tree hs)
 all_come p [] f = tt
 all_come p (h ∷ hs) f = (
   may_come (all_in_tree p) (in_tree h) (may_follow-map started p h f.0),
@@ -70,8 +82,11 @@ events_stay limits b d ended f broken =
 -- ---- whether the document is closed
 
 -- a tree knows it as the events say
-is_open_same : (limits : Limits) (b : List ℕ) (ended : Bool) → (tree_of (happened limits b ended)).is_open ≡ (tree_of (whats (events_of limits b ended))).is_open
-is_open_same limits b ended = ap (λ (d : Document NamedElement). d.is_open) (tree_of-map started (whats (events_of limits b ended)))
+pub open_same : (hs : List (TreeEvent ElementStart)) → (tree_of (all_in_tree hs)).is_open ≡ (tree_of hs).is_open
+open_same hs = ap (λ (d : Document NamedElement). d.is_open) (tree_of-map started hs)
+
+pub is_open_same : (limits : Limits) (b : List ℕ) (ended : Bool) → (tree_of (happened limits b ended)).is_open ≡ (tree_of (whats (events_of limits b ended))).is_open
+is_open_same limits b ended = open_same (whats (events_of limits b ended))
 
 -- the document is open until the input has ended
 pub open_so_far : (limits : Limits) (b : List ℕ) → (tree_of (happened limits b false)).is_open ≡ true

@@ -1,8 +1,8 @@
 pub mod Comings
+pub mod Feedings
 pub mod Results
 pub mod Runs
 pub mod Running
-pub mod Pumps
 pub mod Runners
 pub mod Stylesheets
 pub mod Accepting

@@ -1,5 +1,5 @@
 -- From the name of a stylesheet to the stylesheet.
-use Rattle.std.proofs.Common.{◌≡◌, inl, inr, ℕ, List, [], Option, Some, None, unwrap_or, IsSome, Result, Ok, Err, OnOk, refl, ap, sym, ◌∙◌, subst}
+use Rattle.std.proofs.Common.{◌≡◌, inl, inr, ℕ, List, [], Option, Some, None, unwrap_or, IsSome, Result, Ok, Err, refl, ap, sym, ◌∙◌, subst}
 use Rattle.sx_atoms.specs.declared.error_codes.Code.{Code}
 use Rattle.sx_atoms.specs.declared.error_codes.Code.TheVariants.{Xtse0010, Xtse3430}
 use Rattle.sx_desk.specs.Desk.{Seen, Opens}

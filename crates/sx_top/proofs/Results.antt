@@ -39,6 +39,11 @@ not_done done n = absurd (n refl)
 not_done waits n = refl
 not_done (stops c) n = refl
 
+pub not_done_by : (g : Ending) → (state_of g ≡ state.Closed → ⊥) → is_done g ≡ false
+not_done_by done n = absurd (n refl)
+not_done_by waits n = refl
+not_done_by (stops c) n = refl
+
 -- ---- growth
 
 module _ (old new : Result) where

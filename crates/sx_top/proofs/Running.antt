@@ -1,6 +1,5 @@
 -- One event more of a run.
-use Rattle.std.proofs.Common.{◌≡◌, ℕ, Bool, true, false, List, [], ◌∷◌, ◌++◌, length, drop, Option, Some, None, refl, ap, ap₂, sym, ◌∙◌, subst, append_assoc, append-nil}
-use Rattle.sx_atoms.specs.declared.error_codes.Code.{Code}
+use Rattle.std.proofs.Common.{◌≡◌, ℕ, Bool, true, false, List, [], ◌∷◌, ◌++◌, length, drop, refl, ap, ap₂, sym, ◌∙◌, append_assoc, append-nil}
 use Rattle.sx_kinds.specs.declared.sheets.Sheet.{Sheet}
 use Rattle.sx_lines.specs.declared.events.Built.{Built}
 use Rattle.sx_lines.specs.Print.{print_all, ends_in_text, ending_of}
@@ -10,16 +9,14 @@ use Rattle.sx_tree.specs.Tree.{TreeEvent}
 use Rattle.sx_limits.specs.declared.limits.Limits.{Limits}
 use Rattle.sx_machine.specs.Growth.{IsGrown, MayCome}
 use Rattle.sx_machine.specs.Meaning.{IsReady}
-use Rattle.sx_machine.specs.Run.{Result, Ending, done, waits, stops, is_done}
+use Rattle.sx_machine.specs.Run.{Result, Ending, done, is_done}
 use Rattle.sx_machine.specs.Session as session
 use Rattle.sx_machine.specs.declared.session.Session.{Session}
 use Rattle.sx_machine.specs.declared.session.State.TheVariants as state
-use Rattle.sx_reading.specs.declared.consumer.Outcome.{Outcome}
-use Rattle.sx_reading.specs.declared.consumer.Outcome.TheVariants as outcomes
 use Rattle.sx_top.specs.Run.{result_on, printed_result}
-use Rattle.sx_top.specs.Runner.{RanAs, ended_by}
+use Rattle.sx_top.specs.Runner.{RanAs}
 use Rattle.sx_top.proofs.Comings.{Happenings}
-use Rattle.sx_top.proofs.Results.{waits_if_going, done_if_closed, stops_if_stopped, not_done, built_grown, stopped_grown, done_grown, result_grows, open_not_done}
+use Rattle.sx_top.proofs.Results.{done_if_closed, not_done, not_done_by, built_grown, result_grows, open_not_done}
 use Rattle.sx_names.specs.Numbering.{NameTable}
 
 -- ---- printing
@@ -69,11 +66,11 @@ module _ (sheet : Sheet) (names : NameTable) (limits : Limits) (ready : IsReady 
     pub written : w ++ due ≡ printed_result (on (p ++ h ∷ [])).built false
     pub text_is : text ≡ ends_in_text false (on (p ++ h ∷ [])).built
 
-  pub printed_one : (s : Session) (due : List ℕ) (text : Bool) (outcome : Option Outcome) (p : Happenings) (h : TreeEvent NamedElement) (w : List ℕ) → MayCome p h
-      → RanAs sheet names limits s due text outcome p w → (output : List Built) → output ≡ drop (length (on p).built) (on (p ++ h ∷ [])).built
+  pub printed_one : (s : Session) (due : List ℕ) (text : Bool) (p : Happenings) (h : TreeEvent NamedElement) (w : List ℕ) → MayCome p h
+      → RanAs sheet names limits s due text p w → (output : List Built) → output ≡ drop (length (on p).built) (on (p ++ h ∷ [])).built
       → (new_due : List ℕ) (new_text : Bool) → new_due ≡ due ++ print_all text output → new_text ≡ ends_in_text text output
       → PrintedMore p h new_due new_text w
-  printed_one s due text outcome p h w may ran output is new_due new_text due_is text_is =
+  printed_one s due text p h w may ran output is new_due new_text due_is text_is =
       let old = (on p).built in
       let whole : (on (p ++ h ∷ [])).built ≡ old ++ output = built_more p h may ∙ ap (λ (x : List Built). old ++ x) (sym is) in
       let was : w ++ due ≡ printed_result old false = ran.written ∙ ap (printed_result old) (before_event p h may) in
@@ -82,81 +79,34 @@ module _ (sheet : Sheet) (names : NameTable) (limits : Limits) (ready : IsReady 
         text_is = text_is ∙ ap (λ (t : Bool). ends_in_text t output) ran.text ∙ sym (ends_in_text-append false old output) ∙ ap (ends_in_text false) (sym whole);
       }
 
--- ---- after one event more
-
-module _ (sheet : Sheet) (names : NameTable) (limits : Limits) (s : Session) (p : Happenings) (w due : List ℕ) (text : Bool)
-    (stands : session.Stands sheet names limits.invocations s p (length (result_on sheet names limits p).built))
-    (written : w ++ due ≡ printed_result (result_on sheet names limits p).built false) (text_is : text ≡ ends_in_text false (result_on sheet names limits p).built) where
-  -- the run goes on
-  pub ran_on : s.state ≡ state.Going → RanAs sheet names limits s due text None p w
-  ran_on going =
-      let g : (result_on sheet names limits p).ending ≡ waits = waits_if_going _ (sym stands.state_is ∙ going) in
-      record {
-        stands = stands;
-        written = written ∙ ap (λ (x : Ending). printed_result (result_on sheet names limits p).built (is_done x)) (sym g);
-        text = text_is;
-        outcome_is = ap ended_by (sym g);
-      }
-
-  -- the run stops at an error
-  pub ran_stopped : (c : Code) → s.state ≡ state.Stopped c → RanAs sheet names limits s due text (Some (outcomes.Dynamic c)) p w
-  ran_stopped c stopped =
-      let g : (result_on sheet names limits p).ending ≡ stops c = stops_if_stopped _ c (sym stands.state_is ∙ stopped) in
-      record {
-        stands = stands;
-        written = written ∙ ap (λ (x : Ending). printed_result (result_on sheet names limits p).built (is_done x)) (sym g);
-        text = text_is;
-        outcome_is = ap ended_by (sym g);
-      }
-
-  -- the run is done
-  pub ran_done : (whole : List ℕ) → whole ≡ due ++ ending_of text → s.state ≡ state.Closed → RanAs sheet names limits s whole text (Some outcomes.Done) p w
-  ran_done whole whole_is closed =
-      let g : (result_on sheet names limits p).ending ≡ done = done_if_closed _ (sym stands.state_is ∙ closed) in
-      record {
-        stands = stands;
-        written = ap (λ (x : List ℕ). w ++ x) whole_is ∙ print_end w due text (result_on sheet names limits p).built written text_is
-            ∙ ap (λ (x : Ending). printed_result (result_on sheet names limits p).built (is_done x)) (sym g);
-        text = text_is;
-        outcome_is = ap ended_by (sym g);
-      }
-
 -- ---- from one event to the next
 
-waited : (old new : Result) (g : Ending) → old.ending ≡ g → IsGrown old new → new.ending ≡ waits → ended_by g ≡ None
-waited old new done e grown w = absurd (done_waits (sym e ∙ ap (λ (r : Result). r.ending) (sym (done_grown old new e grown)) ∙ w))
-  where
-    done_waits : done ≡ waits → ⊥
-    done_waits p = cc
-waited old new waits e grown w = refl
-waited old new (stops c) e grown w = absurd (stops_waits (sym e ∙ ap (λ (r : Result). r.ending) (sym (stopped_grown old new c e grown)) ∙ w))
-  where
-    stops_waits : stops c ≡ waits → ⊥
-    stops_waits p = cc
-
-module _ (sheet : Sheet) (known : NameTable) (limits : Limits) (ready : IsReady sheet known) (was : Session) (was_due : List ℕ) (was_text : Bool) (outcome : Option Outcome)
+module _ (sheet : Sheet) (known : NameTable) (limits : Limits) (was : Session) (was_due : List ℕ) (was_text : Bool)
     (p : Happenings) (h : TreeEvent NamedElement) (w : List ℕ) (s : Session) (output : List Built) (due : List ℕ) (text : Bool)
-    (may : MayCome p h) (ran : RanAs sheet known limits was was_due was_text outcome p w)
+    (may : MayCome p h) (ran : RanAs sheet known limits was was_due was_text p w)
     (stands : session.Stands sheet known limits.invocations s (p ++ h ∷ []) (length (result_on sheet known limits (p ++ h ∷ [])).built))
     (output_is : output ≡ drop (length (result_on sheet known limits p).built) (result_on sheet known limits (p ++ h ∷ [])).built)
     (due_is : due ≡ was_due ++ print_all was_text output) (text_is : text ≡ ends_in_text was_text output) where
-  more : PrintedMore sheet known limits ready p h due text w
-  more = printed_one sheet known limits ready was was_due was_text outcome p h w may ran output output_is due text due_is text_is
+  abbrev new : Result
+  new = result_on sheet known limits (p ++ h ∷ [])
 
-  -- the run goes on
-  pub event_on : s.state ≡ state.Going → RanAs sheet known limits s due text outcome (p ++ h ∷ []) w
-  event_on going =
-      let none : outcome ≡ None =
-      ran.outcome_is
-      ∙ waited (result_on sheet known limits p) (result_on sheet known limits (p ++ h ∷ [])) (result_on sheet known limits p).ending refl (one_more sheet known limits ready p h may)
-      (waits_if_going (result_on sheet known limits (p ++ h ∷ [])).ending (sym stands.state_is ∙ going)) in
-      subst (λ (o : Option Outcome). RanAs sheet known limits s due text o (p ++ h ∷ []) w) (sym none)
-      (ran_on sheet known limits s (p ++ h ∷ []) w due text stands more.written more.text_is going)
+  more : PrintedMore sheet known limits ran.stands.ready p h due text w
+  more = printed_one sheet known limits ran.stands.ready was was_due was_text p h w may ran output output_is due text due_is text_is
 
-  -- it stops at an error
-  pub event_stops : (c : Code) → s.state ≡ state.Stopped c → RanAs sheet known limits s due text (Some (outcomes.Dynamic c)) (p ++ h ∷ []) w
-  event_stops c stopped = ran_stopped sheet known limits s (p ++ h ∷ []) w due text stands more.written more.text_is c stopped
+  -- the document is not closed with it, or the run stops at an error
+  pub event_ran : (s.state ≡ state.Closed → ⊥) → RanAs sheet known limits s due text (p ++ h ∷ []) w
+  event_ran open_yet = record {
+    stands = stands;
+    written = more.written ∙ ap (λ (x : Bool). printed_result new.built x) (sym (not_done_by new.ending (λ e. open_yet (stands.state_is ∙ e))));
+    text = more.text_is;
+  }
 
-  -- it is done
-  pub event_done : (whole : List ℕ) → whole ≡ due ++ ending_of text → s.state ≡ state.Closed → RanAs sheet known limits s whole text (Some outcomes.Done) (p ++ h ∷ []) w
-  event_done whole is closed = ran_done sheet known limits s (p ++ h ∷ []) w due text stands more.written more.text_is whole is closed
+  -- it is, and what ends a whole result was printed
+  pub event_done : (whole : List ℕ) → whole ≡ due ++ ending_of text → s.state ≡ state.Closed → RanAs sheet known limits s whole text (p ++ h ∷ []) w
+  event_done whole is closed =
+      let g : new.ending ≡ done = done_if_closed _ (sym stands.state_is ∙ closed) in
+      record {
+        stands = stands;
+        written = ap (λ (x : List ℕ). w ++ x) is ∙ print_end w due text new.built more.written more.text_is ∙ ap (λ (x : Ending). printed_result new.built (is_done x)) (sym g);
+        text = more.text_is;
+      }

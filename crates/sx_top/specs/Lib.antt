@@ -1,4 +1,5 @@
 pub mod Keeping
+pub mod Feeding
 pub mod Run
 pub mod Runner
 pub mod Stylesheet

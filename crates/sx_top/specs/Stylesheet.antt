@@ -1,19 +1,23 @@
 -- Reading a stylesheet: nothing is written for its bytes, and they end whole or are broken off.
-use Rattle.std.specs.Prelude.{◌≡◌, ℕ, Bool, true, IsTrue, List, [], ◌∷◌, length, take, Some, None, Result, IfOk}
+use Rattle.std.specs.Prelude.{◌≡◌, ℕ, true, IsTrue, List, [], ◌∷◌, Option, Some, None, Result, IfOk, if◌then◌else◌}
 use Rattle.sx_desk.specs.Desk.{Seen, bytes_of}
-use Rattle.sx_names.specs.Numbering.{NameTable, IsDistinct}
+use Rattle.sx_names.specs.Numbering.{NameTable}
 use Rattle.sx_named.specs.Named.{named}
 use Rattle.sx_limits.specs.declared.limits.Limits.{Limits}
-use Rattle.sx_events.specs.Course.{Lined, events_of, break_of}
+use Rattle.sx_events.specs.Course.{Lined, events_of, break_of, whats}
 use Rattle.sx_limits.specs.Limits.{stated}
-use Rattle.sx_events.specs.Reader as reader
+use Rattle.sx_tree.specs.Tree.{tree_of}
+use Rattle.sx_tree.specs.declared.events.Event.{Event}
+use Rattle.sx_tree.specs.declared.events.Event.TheVariants as event
 use Rattle.sx_sheet.specs.declared.reading.LinedEvent.{LinedEvent}
 use Rattle.sx_sheet.specs.Tokens.{AreKnown}
-use Rattle.sx_reading.specs.Transforming.{WrittenFor, OutcomeFor, Transforms, nothing_written, whole_outcome, status_of_bytes, IsFailure}
+use Rattle.sx_reading.specs.Transforming.{OutcomeFor, Transforms, nothing_written, whole_outcome, status_of_bytes, IsFailure}
+use Rattle.sx_reading.specs.declared.consumer.Outcome.{Outcome}
 use Rattle.sx_reading.specs.declared.consumer.Outcome.TheVariants as outcomes
 use Rattle.sx_reading.specs.declared.status.Input.TheVariants as input
 use Rattle.sx_reading.specs.declared.status.Status.{Status}
-use Rattle.sx_top.specs.declared.stylesheet.StylesheetReader.{StylesheetReader}
+use Rattle.sx_top.specs.Feeding.{Meaning, AreOrdered}
+use Rattle.sx_top.specs.declared.stylesheet.Collector.{Collector}
 
 -- the limits of a stylesheet are those of a document, but for its bytes
 abbrev pub sheet_limits : Limits
@@ -40,31 +44,30 @@ module _ (names : NameTable) where
   lined_at [] = []
   lined_at (e ∷ es) = record { what = named names e.event; line = e.line } ∷ lined_at es
 
--- These are the first events of the bytes, each with its line, by the reader's table of names.
-pub record Collected (r : StylesheetReader) (b : List ℕ) (ended : Bool) : Type 0 where
-  pub distinct : IsDistinct r.names
-  pub known : AreKnown r.names r.events
-  pub events : lined_at r.names r.events ≡ take (length r.events) (events_of sheet_limits b ended)
+-- where the events of a stylesheet end whose last event is this one
+abbrev pub end_of : Event → Option Outcome
+end_of (event.Start label attrs spaces) = None
+end_of event.End = None
+end_of (event.Text s) = None
+end_of (event.Pi target content) = None
+end_of event.Close = Some outcomes.Done
 
--- All events of the bytes were collected, as far as they are not broken off, and the reader of events goes on.
-pub record Collects (r : StylesheetReader) (b : List ℕ) (ended : Bool) : Type 0 where
-  pub told : r.ended ≡ ended
-  pub collected : Collected r b ended
-  pub reads : reader.EventsStand r.reader sheet_limits r.names b ended (length r.events)
+-- what the events of a stylesheet mean to what collects them: nothing is written, and they end at the close
+abbrev pub collecting : Meaning
+collecting = record {
+  input = input.Sheet;
+  limits = sheet_limits;
+  written = λ events. [];
+  outcome = λ events. if (tree_of (whats events)).is_open then None else Some outcomes.Done;
+}
 
--- The reader was fed these bytes, it was or was not told of the end, and nothing was taken of what is written.
-pub record StylesheetStands (r : StylesheetReader) (b : List ℕ) (ended : Bool) (w : List ℕ) : Type 0 where
+-- These events, each with its line, were collected, by this table of names.
+pub record Collects (c : Collector) (m : Meaning) (names : NameTable) (events : List Lined) (w : List ℕ) : Type 0 where
+  pub means : m ≡ collecting
+  pub known : AreKnown names c.events
+  pub are : lined_at names c.events ≡ events
+  pub ordered : AreOrdered events
   pub nothing : w ≡ []
-  pub outcome : r.outcome ≡ sheet_outcome b ended
-  pub going : r.outcome ≡ None → Collects r b ended
-  pub all : r.outcome ≡ None → length r.events ≡ length (events_of sheet_limits b ended)
-  pub whole : r.outcome ≡ Some outcomes.Done → Collected r b ended × (length r.events ≡ length (events_of sheet_limits b ended))
-
--- The reader stands for the bytes of a stylesheet.
-pub record Meant (r : StylesheetReader) (written : WrittenFor) (outcome : OutcomeFor) (b : List ℕ) (ended : Bool) (w : List ℕ) : Type 0 where
-  pub writes : written ≡ nothing_written
-  pub ends_at : outcome ≡ sheet_outcome
-  pub stands : StylesheetStands r b ended w
 
 -- These are all events of bytes that are not broken off and have ended, by this table of names.
 pub record AreEvents (names : NameTable) (events : List LinedEvent) (bytes : List ℕ) : Type 0 where

@@ -2,6 +2,7 @@
 //! parts, a stylesheet taken from its file and its run on a document.
 #![tactic(auto)]
 
+mod feeding;
 mod laws;
 mod loading;
 mod program;

@@ -67,7 +67,8 @@ fn copy_opened<D: Desk>(alloc: Global, file: u32, desk: &mut D) -> Status
 // Copies the document of a name.
 fn copy<D: Desk>(alloc: Global, name: &str, desk: &mut D) -> Status
     requires { length (D.seen desk.old).opened < 2 ^ 31 }
-    ensures headline { Headline copy_written copy_outcome name.now (D.seen desk.old) (D.seen desk.new) result }
+    ensures headline { Headline copy_written copy_outcome name.now
+        (D.seen desk.old) (D.seen desk.new) result }
     ensures quiet { IsQuiet (D.seen desk.old) (D.seen desk.new) }
 {
     match desk.open_file(name) {
@@ -86,7 +87,8 @@ fn run_on<D: Desk>(
 ) -> Status
     requires { length (D.seen desk.old).opened ≤ 2 ^ 31 }
     ensures headline { IsReady sheet.now names.old
-        → Headline (run_written sheet.now names.old stated) (run_outcome sheet.now names.old stated) name.now (D.seen desk.old) (D.seen desk.new) result }
+        → Headline (run_written sheet.now names.old stated) (run_outcome sheet.now names.old stated) name.now
+        (D.seen desk.old) (D.seen desk.new) result }
     ensures quiet { IsQuiet (D.seen desk.old) (D.seen desk.new) }
 {
     match desk.open_file(name) {

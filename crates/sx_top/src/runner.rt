@@ -1,29 +1,26 @@
-// The runner: bytes of a document in, the bytes of a stylesheet's result out, and no tree between.
-ghost use Rattle.std.specs.Prelude.{◌≡◌, ◌^◌, ◌≤◌, ◌++◌, ◌∷◌, [], List, ℕ, Bool, true, false, None, Some, IfOk, OnOk};
+// The runner: events of a document in, the bytes of a stylesheet's result out, and no tree between.
+ghost use Rattle.std.specs.Prelude.{◌≡◌, ◌++◌, [], IfOk, OnOk};
 ghost use Rattle.sx_kinds.specs.declared.sheets.Sheet.{Sheet as Stylesheet};
 ghost use Rattle.sx_lines.specs.Print.{is_text_event, print_all, ends_in_text, ending_of};
-ghost use Rattle.sx_machine.specs.Meaning.{IsReady};
 ghost use Rattle.sx_machine.specs.Session as machine;
-ghost use Rattle.sx_names.specs.Numbering.{NameTable, IsDistinct, KeepsPlaces};
+ghost use Rattle.sx_limits.specs.declared.limits.Limits.{Limits as Bounds};
+ghost use Rattle.sx_names.specs.Numbering.{NameTable};
 ghost use Rattle.sx_top.specs.Runner.{ended_in};
 
+use crate::feeding::EventTaker;
 use std::alloc::{AllocError, Global};
-use sx_events::{EventReader, Limits};
 use sx_lines::Built;
 use sx_machine::{Session, State};
 use sx_names::Names;
-use sx_reading::{Consumer, Input, Outcome};
+use sx_reading::{Input, Outcome};
 use sx_tree::Event;
 
-/// Runs a stylesheet on a document as its bytes come.
+/// Runs a stylesheet on a document as its events come.
 #[derive(Drop)]
 pub(crate) struct Runner {
-    reader: EventReader,
     session: Session,
-    pub names: Names,
     due: Vec<u8>,
     after_text: bool,
-    outcome: Option<Outcome>,
 }
 
 // Whether a built event is a text.
@@ -71,138 +68,50 @@ fn ended_in(state: State) -> Option<Outcome>
 }
 
 impl Runner {
-    ghost use Rattle.sx_events.specs.Reader as reader;
-    ghost use Rattle.sx_top.specs.Runner.{RunnerStands, Takes};
-    ghost use Rattle.sx_machine.specs.declared.session.State.TheVariants as state;
+    ghost use Rattle.sx_top.specs.Runner.{run_meaning, Runs};
 
-    /// A runner that was fed nothing.
-    pub fn new(alloc: Global, session: Session, names: Names, limits: &Limits) -> Runner
-        requires bytes { limits.now.bytes ≤ 2 ^ 40 }
-        ensures stands { (sheet : Stylesheet) → IsReady sheet names → IsDistinct names → machine.Stands sheet names limits.now.invocations session [] 0
-            → RunnerStands sheet names limits.now result [] false [] }
-        ensures names { result.names ≡ names }
+    /// A runner of which nothing was printed.
+    pub fn new(alloc: Global, session: Session) -> Runner
+        ensures { (sheet : Stylesheet) (names : NameTable) (limits : Bounds)
+            → machine.Stands sheet names limits.invocations session [] 0
+            → Runs result (run_meaning sheet names limits) names [] [] }
     {
-        let outcome = ended_in(session.state());
         Runner {
-            reader: EventReader::new(alloc, limits),
             session,
-            names,
             due: Vec::new(alloc),
             after_text: false,
-            outcome,
-        }
-    }
-
-    // Runs an event, and says whether the run goes on.
-    fn take(&mut self, event: Event) -> Result<bool, AllocError>
-        ensures ran { OnOk result (Takes self.old event self.new) }
-        ensures going { IfOk result (λ on. on ≡ true → (self.new.session.state ≡ state.Going)) }
-        ensures ended { IfOk result (λ on. on ≡ false → (self.new.session.state ≡ state.Going → ⊥)) }
-        ensures names { self.new.names ≡ self.old.names }
-        ensures reader { self.new.reader ≡ self.old.reader }
-    {
-        self.session.feed(event, &mut self.names)?;
-        self.after_text = print(&mut self.due, self.after_text, self.session.output())?;
-        self.session.clear_output();
-        match self.session.state() {
-            State::Going => Ok(true),
-            State::Stopped(code) => {
-                self.outcome = Some(Outcome::Dynamic { code });
-                Ok(false)
-            }
-            State::Closed => {
-                print_ending(&mut self.due, self.after_text)?;
-                self.outcome = Some(Outcome::Done);
-                Ok(false)
-            }
-            State::Spent => Err(AllocError),
         }
     }
 }
 
-impl Runner {
-    ghost use Rattle.sx_top.specs.Runner.{TakesAll, Continues, Ends};
-
-    // Runs all events that have come, as long as the run goes on.
-    fn take_events(&mut self) -> Result<(), AllocError>
-        ensures stands { OnOk result (TakesAll self.old self.new) }
-        ensures kept { KeepsPlaces self.old.names self.new.names }
-    {
-        'events: loop {
-            match self.reader.next(&mut self.names)? {
-                None => return Ok(()),
-                Some(Err(fault)) => {
-                    self.outcome = Some(Outcome::Broken {
-                        input: Input::Document,
-                        fault,
-                    });
-                    return Ok(());
-                }
-                Some(Ok(event)) => {
-                    if !self.take(event)? {
-                        return Ok(());
-                    }
-                }
-            }
-        }
-    }
-
-    // Takes the next bytes; behind an outcome they are dropped.
-    fn take_bytes(&mut self, piece: &[u8]) -> Result<(), AllocError>
-        ensures stands { OnOk result (Continues self.old piece.now self.new) }
-        ensures kept { KeepsPlaces self.old.names self.new.names }
-    {
-        if self.outcome.is_some() {
-            return Ok(());
-        }
-        self.reader.feed(piece)?;
-        self.take_events()
-    }
-
-    // The input has ended.
-    fn end_input(&mut self) -> Result<(), AllocError>
-        ensures stands { OnOk result (Ends self.old self.new) }
-        ensures kept { KeepsPlaces self.old.names self.new.names }
-    {
-        if self.outcome.is_some() {
-            return Ok(());
-        }
-        self.reader.finish()?;
-        self.take_events()
-    }
-}
-
-impl Consumer for Runner {
-    ghost use Rattle.std.specs.Prelude.{ℕ, List};
-    ghost use Rattle.sx_names.specs.Numbering.{KeepsPlaces};
-    ghost use Rattle.sx_top.specs.Keeping as keeping;
+impl EventTaker for Runner {
     ghost use Rattle.sx_top.specs.Runner.{Runs};
 
     ghost stands = { Runs };
 
-    ghost keeps = { λ old new. KeepsPlaces old.names new.names };
-
-    fn feed(&mut self, piece: &[u8]) -> Result<(), AllocError> {
-        self.take_bytes(piece)
+    fn input(&self) -> Input {
+        Input::Document
     }
 
-    fn finish(&mut self) -> Result<(), AllocError> {
-        self.end_input()
+    fn take(&mut self, event: Event, _line: u64, names: &mut Names) -> Result<(), AllocError> {
+        self.session.feed(event, names)?;
+        self.after_text = print(&mut self.due, self.after_text, self.session.output())?;
+        self.session.clear_output();
+        match self.session.state() {
+            State::Closed => print_ending(&mut self.due, self.after_text),
+            _ => Ok(()),
+        }
     }
 
-    fn output(&self) -> &[u8] {
+    fn ended(&self) -> Option<Outcome> {
+        ended_in(self.session.state())
+    }
+
+    fn due(&self) -> &[u8] {
         &self.due
     }
 
-    fn clear_output(&mut self) {
+    fn clear_due(&mut self) {
         self.due.clear();
     }
-
-    fn outcome(&self) -> Option<Outcome> {
-        self.outcome
-    }
-
-    ghost keeps_same = { λ c. keeping.keeps_same c.names };
-
-    ghost keeps_then = { λ a b c. keeping.keeps_then a.names b.names c.names };
 }

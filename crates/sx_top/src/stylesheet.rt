@@ -1,18 +1,20 @@
 // The events of a stylesheet.
-ghost use Rattle.std.specs.Prelude.{◌≡◌, ◌<◌, ℕ, List, [], ◌++◌, Bool, IsTrue, None, false, true, length, OnOk, IfOk};
+ghost use Rattle.std.specs.Prelude.{◌≡◌, ◌<◌, IsTrue, length};
 ghost use Rattle.sx_desk.specs.declared.desk.Out.TheVariants as out;
 ghost use Rattle.sx_reading.specs.Frame.{Frame};
-ghost use Rattle.sx_names.specs.Numbering.{IsDistinct, KeepsPlaces};
-ghost use Rattle.sx_top.specs.Stylesheet.{StylesheetStands, Collects, ReadsSheet, sheet_limits};
+ghost use Rattle.sx_names.specs.Numbering.{KeepsPlaces};
+ghost use Rattle.sx_top.specs.Stylesheet.{ReadsSheet, end_of, sheet_limits};
 
+use crate::feeding::{EventTaker, Feeder};
 use sqlite_items::Items;
 use std::alloc::{AllocError, Global};
 use std::mem;
 use sx_desk::Desk;
-use sx_events::{EventReader, Limits};
+use sx_events::Limits;
 use sx_names::Names;
-use sx_reading::{Consumer, Input, Outcome, Status, transfer};
+use sx_reading::{Input, Outcome, Status, transfer};
 use sx_sheet::{LinedEvent, LinedEvents};
+use sx_tree::Event;
 
 /// The most bytes of a stylesheet.
 const SHEET_LIMIT: u64 = 1_048_576;
@@ -36,116 +38,47 @@ fn limits() -> Limits
     }
 }
 
-/// Takes the bytes of a stylesheet as they come, keeps its events, each with its line, and writes nothing.
+/// Keeps the events of a stylesheet, each with its line, and writes nothing.
 #[derive(Drop)]
-pub(crate) struct StylesheetReader {
-    reader: EventReader,
-    pub names: Names,
+pub(crate) struct Collector {
     pub events: LinedEvents,
-    outcome: Option<Outcome>,
-    ended: bool,
 }
 
-impl StylesheetReader {
-    /// A reader that was fed nothing.
-    pub fn new(alloc: Global, names: Names) -> StylesheetReader
-        ensures stands { IsDistinct names → StylesheetStands result [] false [] }
-        ensures names { result.names ≡ names }
-    {
-        StylesheetReader {
-            reader: EventReader::new(alloc, &limits()),
-            names,
-            events: Items::new(alloc),
-            outcome: None,
-            ended: false,
-        }
-    }
-
-    // Keeps all events that have come, and says where the bytes end, if they do.
-    fn take_events(&mut self) -> Result<(), AllocError>
-        ensures stands { OnOk result ((b w : List ℕ) (ended : Bool) → self.old.outcome ≡ None → w ≡ [] → Collects self.old b ended → StylesheetStands self.new b ended w) }
-        ensures kept { KeepsPlaces self.old.names self.new.names }
-    {
-        'events: loop {
-            match self.reader.next(&mut self.names)? {
-                None => {
-                    if self.ended {
-                        self.outcome = Some(Outcome::Done);
-                    }
-                    return Ok(());
-                }
-                Some(Err(fault)) => {
-                    self.outcome = Some(Outcome::Broken {
-                        input: Input::Sheet,
-                        fault,
-                    });
-                    return Ok(());
-                }
-                Some(Ok(event)) => self.events.push(LinedEvent {
-                    event,
-                    line: self.reader.line(),
-                })?,
-            }
-        }
-    }
-
-    // Takes the next bytes; behind an outcome they are dropped.
-    fn take_bytes(&mut self, piece: &[u8]) -> Result<(), AllocError>
-        ensures stands { OnOk result ((b w : List ℕ) → StylesheetStands self.old b false w → StylesheetStands self.new (b ++ piece.now) false w) }
-        ensures kept { KeepsPlaces self.old.names self.new.names }
-    {
-        if self.outcome.is_some() {
-            return Ok(());
-        }
-        self.reader.feed(piece)?;
-        self.take_events()
-    }
-
-    // The input has ended.
-    fn end_input(&mut self) -> Result<(), AllocError>
-        ensures stands { OnOk result ((b w : List ℕ) → StylesheetStands self.old b false w → StylesheetStands self.new b true w) }
-        ensures kept { KeepsPlaces self.old.names self.new.names }
-    {
-        if self.outcome.is_some() {
-            return Ok(());
-        }
-        self.reader.finish()?;
-        self.ended = true;
-        self.take_events()
+// Where the events of a stylesheet end whose last event is this one.
+fn end_of(event: &Event) -> Option<Outcome>
+    ensures { result ≡ end_of event.now }
+{
+    match event {
+        Event::Close => Some(Outcome::Done),
+        _ => None,
     }
 }
 
-impl Consumer for StylesheetReader {
-    ghost use Rattle.std.specs.Prelude.{ℕ, List};
-    ghost use Rattle.sx_names.specs.Numbering.{KeepsPlaces};
-    ghost use Rattle.sx_top.specs.Keeping as keeping;
-    ghost use Rattle.sx_top.specs.Stylesheet.{Meant};
+impl EventTaker for Collector {
+    ghost use Rattle.sx_top.specs.Stylesheet.{Collects};
 
-    ghost stands = { Meant };
+    ghost stands = { Collects };
 
-    ghost keeps = { λ old new. KeepsPlaces old.names new.names };
-
-    fn feed(&mut self, piece: &[u8]) -> Result<(), AllocError> {
-        self.take_bytes(piece)
+    fn input(&self) -> Input {
+        Input::Sheet
     }
 
-    fn finish(&mut self) -> Result<(), AllocError> {
-        self.end_input()
+    fn take(&mut self, event: Event, line: u64, _names: &mut Names) -> Result<(), AllocError> {
+        self.events.push(LinedEvent { event, line })
     }
 
-    fn output(&self) -> &[u8] {
+    fn ended(&self) -> Option<Outcome> {
+        match self.events.as_slice().last() {
+            Some(last) => end_of(&last.event),
+            None => None,
+        }
+    }
+
+    fn due(&self) -> &[u8] {
         &[]
     }
 
-    fn clear_output(&mut self) {}
-
-    fn outcome(&self) -> Option<Outcome> {
-        self.outcome
-    }
-
-    ghost keeps_same = { λ c. keeping.keeps_same c.names };
-
-    ghost keeps_then = { λ a b c. keeping.keeps_then a.names b.names c.names };
+    fn clear_due(&mut self) {}
 }
 
 /// Reads a whole stylesheet from an opened file of which nothing was taken, and gives its events. The names in it get their
@@ -164,11 +97,14 @@ pub(crate) fn read_stylesheet<D: Desk>(
 {
     names.each_once();
     let own = mem::replace(names, sx_names::new(alloc));
-    let mut reader = StylesheetReader::new(alloc, own);
-    let status = transfer(alloc, file, desk, &mut reader);
-    mem::swap(names, &mut reader.names);
+    let collector = Collector {
+        events: Items::new(alloc),
+    };
+    let mut feeder = Feeder::new(alloc, &limits(), own, collector);
+    let status = transfer(alloc, file, desk, &mut feeder);
+    mem::swap(names, &mut feeder.names);
     match status {
-        Status::Ok => Ok(reader.events),
+        Status::Ok => Ok(feeder.taker.events),
         status => Err(status),
     }
 }

@@ -7,6 +7,7 @@ ghost use Rattle.sx_reading.specs.Frame.{Frame};
 ghost use Rattle.sx_reading.specs.Transforming.{Transforms};
 ghost use Rattle.sx_top.specs.Run.{run_written, run_outcome};
 
+use crate::feeding::Feeder;
 use crate::runner::Runner;
 use std::alloc::Global;
 use std::mem;
@@ -35,7 +36,8 @@ pub fn transform<D: Desk>(
     requires given { file < length (D.seen desk.old).opened }
     requires untouched { IsTrue (D.seen desk.old).told → (D.seen desk.old).taken file ≡ 0 }
     ensures runs { IsReady sheet.now names.old
-        → Transforms (run_written sheet.now names.old limits.now) (run_outcome sheet.now names.old limits.now) file (D.seen desk.old) (D.seen desk.new) result }
+        → Transforms (run_written sheet.now names.old limits.now) (run_outcome sheet.now names.old limits.now)
+        file (D.seen desk.old) (D.seen desk.new) result }
     ensures kept { KeepsPlaces names.old names.new }
     ensures frame { Frame file out.Result (D.seen desk.old) (D.seen desk.new) }
 {
@@ -43,9 +45,9 @@ pub fn transform<D: Desk>(
     match Session::start(alloc, sheet, limits.invocations, names) {
         Ok(session) => {
             let own = mem::replace(names, sx_names::new(alloc));
-            let mut runner = Runner::new(alloc, session, own, limits);
-            let status = transfer(alloc, file, desk, &mut runner);
-            mem::swap(names, &mut runner.names);
+            let mut feeder = Feeder::new(alloc, limits, own, Runner::new(alloc, session));
+            let status = transfer(alloc, file, desk, &mut feeder);
+            mem::swap(names, &mut feeder.names);
             status
         }
         Err(_) => Status::OutOfMemory,
