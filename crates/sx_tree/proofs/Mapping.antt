@@ -1,6 +1,6 @@
 -- The tree of events of which something else is known is that tree, and what may follow is the same.
-use Rattle.std.proofs.Common.{◌≡◌, Bool, true, false, cond, List, [], ◌∷◌, ◌++◌, map, refl, ap, ap₂, sym, ◌∙◌}
-use Rattle.sx_tree.specs.Events.{is_text, last_is_text, ends_in_text, IsAllowed, MayFollow}
+use Rattle.std.proofs.Common.{◌≡◌, Bool, true, false, cond, List, [], ◌∷◌, map, refl, ap, sym, ◌∙◌}
+use Rattle.sx_tree.specs.Events.{is_text, last_is_text, IsAllowed, MayFollow}
 use Rattle.sx_tree.specs.Mapping.{map_event, map_forest, map_document}
 use Rattle.sx_tree.specs.Tree.{TreeEvent, starts, ends, says, instructs, closes, Forest, none, text, instruction, element, Document, has_open, first_node, push_end, push_node, push, push_all, tree_of, empty_document}
 

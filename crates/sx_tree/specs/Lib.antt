@@ -4,3 +4,6 @@ pub mod Events
 pub mod OpenTree
 pub mod Counted
 pub mod Mapping
+pub mod Places
+pub mod TreeView
+pub mod Growth

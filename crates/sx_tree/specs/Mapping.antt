@@ -1,5 +1,4 @@
 -- Events and trees of which something else is known of each element.
-use Rattle.std.specs.Prelude.{Bool, List}
 use Rattle.sx_tree.specs.Tree.{TreeEvent, starts, ends, says, instructs, closes, Forest, none, text, instruction, element, Document}
 
 module _ {E F : Type 0} (f : E → F) where
