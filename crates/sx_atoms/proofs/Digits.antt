@@ -7,7 +7,7 @@ use Rattle.std.specs.Char.{is_ascii_digit}
 use Rattle.std.specs.List.{list_all}
 use Rattle.std.proofs.lemmas.List.{drop_more}
 use Rattle.std.proofs.Math.ListN.{drop_of_length-le}
-use Rattle.sx_atoms.specs.Numbers.{fits, held}
+use Rattle.sx_atoms.specs.Numbers.{fits, held_in_range}
 use Rattle.sx_atoms.specs.Lexical.{digits_value, with_sign, units_value, units_of}
 use Rattle.sx_atoms.specs.declared.error_codes.Code.TheVariants as code
 
@@ -63,12 +63,12 @@ scaled w k n v m a b low ea eb em =
     omega (arith, em, zero, parts)
 
 -- a number past the range of an i128, whatever its sign
-held_over : (minus : Bool) (n : ℕ) → 2 ^ 127 < n → held (with_sign minus n) ≡ Err code.Foar0002
+held_over : (minus : Bool) (n : ℕ) → 2 ^ 127 < n → held_in_range (with_sign minus n) ≡ Err code.Foar0002
 held_over minus zero h = absurd (omega arith)
 held_over true (suc n) h = let e : fits (negsuc n) ≡ false = grind (arith, nat_tests) in rw e refl
 held_over false (suc n) h = let e : fits (pos (suc n)) ≡ false = grind (arith, nat_tests) in rw e refl
 
-pub held_cut : (minus : Bool) (n : ℕ) → held (with_sign minus (min n most)) ≡ held (with_sign minus n)
+pub held_cut : (minus : Bool) (n : ℕ) → held_in_range (with_sign minus (min n most)) ≡ held_in_range (with_sign minus n)
 held_cut minus n = elim (cases_lt most n) [
   | inl over ↦
       let a : min n most ≡ most = min-eq_right (omega arith) in
@@ -87,7 +87,7 @@ all_append p (x ∷ xs) ys h g = by (p x) (list_all p xs) h (λ k. all_append p 
 -- the units of digits before a point and behind it
 pub written : (minus : Bool) (whole fraction : List ℕ) (m : ℕ) → list_all is_ascii_digit whole ≡ true → list_all is_ascii_digit fraction ≡ true
     → 0 < length whole + length fraction → length fraction ≤ 9 → m ≡ min (units_value whole fraction) most
-    → held (with_sign minus m) ≡ units_of minus whole fraction
+    → held_in_range (with_sign minus m) ≡ units_of minus whole fraction
 written minus whole fraction m w f some low e =
     let all : list_all is_ascii_digit (whole ++ fraction) ≡ true = all_append is_ascii_digit whole fraction w f in
     let l : length (whole ++ fraction) ≡ length whole + length fraction = length-append whole fraction in

@@ -1,6 +1,6 @@
 -- What is known of an answer that is no code.
 use Rattle.std.proofs.Common.{◌≡◌, List, [], ◌∷◌, Result, Ok, Err, ℤ, refl, ap, sym, ◌∙◌}
-use Rattle.sx_atoms.specs.Numbers.{◌>>=◌, held, by_way_of, units, paired}
+use Rattle.sx_atoms.specs.Numbers.{◌>>=◌, held_in_range, by_way_of, units, paired}
 use Rattle.sx_atoms.specs.Arithmetic.{number_of, with_operands}
 use Rattle.sx_atoms.specs.Laws.{atom_of}
 use Rattle.sx_atoms.specs.declared.atoms.Atom.{Atom}
@@ -18,7 +18,7 @@ bind_ok (Err e) f b h = absurd (cc)
 -- the answer is the one that is stated
 pub by_way_gives : {A : Type 0} (zs : List ℤ) (answer a : A) → by_way_of zs answer ≡ Ok a → a ≡ answer
 by_way_gives [] answer a h = cc
-by_way_gives (z ∷ zs) answer a h = let p = bind_ok (held z) (λ n. by_way_of zs answer) a h in by_way_gives zs answer a p.2
+by_way_gives (z ∷ zs) answer a h = let p = bind_ok (held_in_range z) (λ n. by_way_of zs answer) a h in by_way_gives zs answer a p.2
 
 -- the operands that two numbers are
 abbrev pub pair_of : Number → Number → Operands
@@ -34,11 +34,11 @@ paired_gives (number.Int a) (number.Dec e) p h = in_units (units (number.Int a))
 paired_gives (number.Dec d) (number.Int b) p h = in_units d.0 (units (number.Int b)) p h
 paired_gives (number.Dec d) (number.Dec e) p h = in_units d.0 e.0 p h
 
--- two numbers of units are both held, whichever comes first
+-- two numbers of units are both held_in_range, whichever comes first
 units_turned : (u v : ℤ) (p : Operands) → by_way_of (u ∷ v ∷ []) (operands.Units u v) ≡ Ok p → by_way_of (v ∷ u ∷ []) (operands.Units v u) ≡ Ok (operands.Units v u)
 units_turned u v p h =
-    let q = bind_ok (held u) (λ n. by_way_of (v ∷ []) (operands.Units u v)) p h in
-    let r = bind_ok (held v) (λ n. by_way_of [] (operands.Units u v)) p q.2 in
+    let q = bind_ok (held_in_range u) (λ n. by_way_of (v ∷ []) (operands.Units u v)) p h in
+    let r = bind_ok (held_in_range v) (λ n. by_way_of [] (operands.Units u v)) p q.2 in
     rw (r.1, q.1) refl
 
 pub paired_turned : (x y : Number) (p : Operands) → paired x y ≡ Ok p → paired y x ≡ Ok (pair_of y x)

@@ -10,7 +10,7 @@ use Rattle.std.proofs.lemmas.Str.Parse.{IsNumeralModel, numerals_by_weight}
 use Rattle.std.specs.Char.{is_ascii_digit}
 use Rattle.std.specs.List.{list_all, prefix_len, suffix_len, position_or_len, before_first, after_first}
 use Rattle.std.specs.Str.Parse.{starts_with_minus, without_leading_sign}
-use Rattle.sx_atoms.specs.Numbers.{held}
+use Rattle.sx_atoms.specs.Numbers.{held_in_range}
 use Rattle.sx_atoms.specs.Lexical.{is_blank, trimmed, digits_value, are_digits, with_sign, integer_of, integer_in, is_point, units_value, units_of, decimal_in}
 
 abbrev pub AreDigits : List ℕ → Type 0
@@ -107,7 +107,7 @@ none_after ds h = rw (without_point ds h) (drop_of_length-le ds (omega arith))
 
 -- a numeral of digits alone
 pub integer_read : (minus : Bool) (text ds : List ℕ) (n : ℕ) → list_all is_black text ≡ true → starts_with_minus text ≡ minus → without_leading_sign text ≡ ds
-    → AreDigits ds → 0 < length ds → digits_value ds ≡ n → integer_in text ≡ held (with_sign minus n)
+    → AreDigits ds → 0 < length ds → digits_value ds ≡ n → integer_in text ≡ held_in_range (with_sign minus n)
 integer_read minus text ds n t m d h some e =
     let a : are_digits ds ≡ true = let l : nat_lt 0 (length ds) ≡ true = grind (arith, nat_tests) in rw (h, l) refl in
     ap (λ (x : List ℕ). integer_of (starts_with_minus x) (without_leading_sign x)) (trimmed_black text t)
@@ -130,7 +130,7 @@ pub record IsUnits (ds : List ℕ) (n : ℕ) : Type 0 where
   pub no_sign : without_leading_sign ds ≡ ds
 
 pub decimal_read : (minus : Bool) (text ds : List ℕ) (n : ℕ) → list_all is_black text ≡ true → starts_with_minus text ≡ minus → without_leading_sign text ≡ ds
-    → IsUnits ds n → decimal_in text ≡ held (with_sign minus n)
+    → IsUnits ds n → decimal_in text ≡ held_in_range (with_sign minus n)
 decimal_read minus text ds n t m d u =
     let w = u.whole in
     let f = u.fraction in

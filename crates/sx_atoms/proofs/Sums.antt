@@ -1,7 +1,7 @@
 -- Sums, whatever is summed first.
 use Rattle.std.proofs.Common.{◌≡◌, Ok, ℤ, ◌+ℤ◌, ◌*ℤ◌, [], ◌∷◌, ap, sym, ◌∙◌}
 use Rattle.std.proofs.Math.IntN.{+ℤ_assoc, +ℤ_comm}
-use Rattle.sx_atoms.specs.Numbers.{by_way_of, one, units}
+use Rattle.sx_atoms.specs.Numbers.{by_way_of, one_unit, units}
 use Rattle.sx_atoms.specs.Arithmetic.{dec, number_of, with_operands, sum_of}
 use Rattle.sx_atoms.specs.Laws.{atom_of}
 use Rattle.sx_atoms.specs.declared.atoms.Atom.{Atom}
@@ -36,16 +36,16 @@ commutes a b s h =
 number_sum_assoc : (x y z : Number) → number_sum (number_sum x y) z ≡ number_sum x (number_sum y z)
 number_sum_assoc (number.Int a) (number.Int b) (number.Int e) = ap number.Int (+ℤ_assoc a b e)
 number_sum_assoc (number.Int a) (number.Int b) (number.Dec e) =
-    ap (λ (z : ℤ). number.Dec (dec z)) (ap (λ (w : ℤ). w +ℤ e.0) (add-mul_ℤ a b one) ∙ +ℤ_assoc (a *ℤ one) (b *ℤ one) e.0)
-number_sum_assoc (number.Int a) (number.Dec d) (number.Int e) = ap (λ (z : ℤ). number.Dec (dec z)) (+ℤ_assoc (a *ℤ one) d.0 (e *ℤ one))
-number_sum_assoc (number.Int a) (number.Dec d) (number.Dec e) = ap (λ (z : ℤ). number.Dec (dec z)) (+ℤ_assoc (a *ℤ one) d.0 e.0)
+    ap (λ (z : ℤ). number.Dec (dec z)) (ap (λ (w : ℤ). w +ℤ e.0) (add-mul_ℤ a b one_unit) ∙ +ℤ_assoc (a *ℤ one_unit) (b *ℤ one_unit) e.0)
+number_sum_assoc (number.Int a) (number.Dec d) (number.Int e) = ap (λ (z : ℤ). number.Dec (dec z)) (+ℤ_assoc (a *ℤ one_unit) d.0 (e *ℤ one_unit))
+number_sum_assoc (number.Int a) (number.Dec d) (number.Dec e) = ap (λ (z : ℤ). number.Dec (dec z)) (+ℤ_assoc (a *ℤ one_unit) d.0 e.0)
 number_sum_assoc (number.Dec d) (number.Int b) (number.Int e) =
-    ap (λ (z : ℤ). number.Dec (dec z)) (+ℤ_assoc d.0 (b *ℤ one) (e *ℤ one) ∙ ap (λ (w : ℤ). d.0 +ℤ w) (sym (add-mul_ℤ b e one)))
-number_sum_assoc (number.Dec d) (number.Int b) (number.Dec e) = ap (λ (z : ℤ). number.Dec (dec z)) (+ℤ_assoc d.0 (b *ℤ one) e.0)
-number_sum_assoc (number.Dec d) (number.Dec e) (number.Int b) = ap (λ (z : ℤ). number.Dec (dec z)) (+ℤ_assoc d.0 e.0 (b *ℤ one))
+    ap (λ (z : ℤ). number.Dec (dec z)) (+ℤ_assoc d.0 (b *ℤ one_unit) (e *ℤ one_unit) ∙ ap (λ (w : ℤ). d.0 +ℤ w) (sym (add-mul_ℤ b e one_unit)))
+number_sum_assoc (number.Dec d) (number.Int b) (number.Dec e) = ap (λ (z : ℤ). number.Dec (dec z)) (+ℤ_assoc d.0 (b *ℤ one_unit) e.0)
+number_sum_assoc (number.Dec d) (number.Dec e) (number.Int b) = ap (λ (z : ℤ). number.Dec (dec z)) (+ℤ_assoc d.0 e.0 (b *ℤ one_unit))
 number_sum_assoc (number.Dec d) (number.Dec e) (number.Dec f) = ap (λ (z : ℤ). number.Dec (dec z)) (+ℤ_assoc d.0 e.0 f.0)
 
--- an atom is one number
+-- an atom is one_unit number
 one_number : (a : Atom) (x y : Number) → number_of a ≡ Ok x → number_of a ≡ Ok y → x ≡ y
 one_number a x y h g = let e : Ok x ≡ Ok y = sym h ∙ g in cc
 

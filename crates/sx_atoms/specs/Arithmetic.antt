@@ -1,6 +1,6 @@
 -- Arithmetic (XPath 3.1, 3.5), over all integers. A decimal is a number of units of 10^-9.
 use Rattle.std.specs.Prelude.{Bool, if◌then◌else◌, [], ◌∷◌, Result, Ok, Err, ℤ, neg_ℤ, ◌+ℤ◌, ◌-ℤ◌, ◌*ℤ◌, int_div, int_rem}
-use Rattle.sx_atoms.specs.Numbers.{◌>>=◌, by_way_of, one, is_zero, paired}
+use Rattle.sx_atoms.specs.Numbers.{◌>>=◌, by_way_of, one_unit, is_zero, paired}
 use Rattle.sx_atoms.specs.Laws.{atom_of}
 use Rattle.sx_atoms.specs.Lexical.{decimal_in}
 use Rattle.sx_atoms.specs.declared.arithmetic.ArithOp.{ArithOp}
@@ -29,14 +29,14 @@ number_of (atom.Untyped text) = do
   z ← decimal_in text
   Ok (number.Dec (dec z))
 
--- two atoms as operands; the left one is looked at first
+-- two atoms as operands; the left one_unit is looked at first
 abbrev pub operands_of : Atom → Atom → Result Operands Code
 operands_of a b = do
   x ← number_of a
   y ← number_of b
   paired x y
 
--- the same, where the right one is a divisor, which must not be zero
+-- the same, where the right one_unit is a divisor, which must not be zero
 abbrev pub dividend_and_divisor_of : Atom → Atom → Result Operands Code
 dividend_and_divisor_of a b = do
   x ← number_of a
@@ -67,13 +67,13 @@ difference_of (Units a b) = by_way_of ((a -ℤ b) ∷ []) (atom.Dec (dec (a -ℤ
 -- the product: that of decimals is the product of their units, divided by 10^9 and cut toward zero
 abbrev pub product_of : Operands → Result Atom Code
 product_of (Ints a b) = by_way_of ((a *ℤ b) ∷ []) (atom.Int (a *ℤ b))
-product_of (Units a b) = let cut = int_div (a *ℤ b) one in
+product_of (Units a b) = let cut = int_div (a *ℤ b) one_unit in
     by_way_of ((a *ℤ b) ∷ cut ∷ []) (atom.Dec (dec cut))
 
 -- the quotient of two integers, or of two numbers of units, as a decimal: 10^9 times the first, divided and cut toward zero
 abbrev pub decimal_quotient : ℤ → ℤ → Result Atom Code
-decimal_quotient a b = let cut = int_div (a *ℤ one) b in
-    by_way_of ((a *ℤ one) ∷ cut ∷ []) (atom.Dec (dec cut))
+decimal_quotient a b = let cut = int_div (a *ℤ one_unit) b in
+    by_way_of ((a *ℤ one_unit) ∷ cut ∷ []) (atom.Dec (dec cut))
 
 -- the quotient, which is always a decimal
 abbrev pub quotient_of : Operands → Result Atom Code

@@ -2,7 +2,7 @@
 use Rattle.std.specs.Prelude.{Bool, not, if◌then◌else◌, Result, Ok, ℤ, pos, ◌*ℤ◌, int_div}
 use Rattle.sx_atoms.specs.Arithmetic.{dec}
 use Rattle.sx_atoms.specs.Lexical.{integer_in, decimal_in, truth_in}
-use Rattle.sx_atoms.specs.Numbers.{◌>>=◌, held, one, is_zero}
+use Rattle.sx_atoms.specs.Numbers.{◌>>=◌, held_in_range, one_unit, is_zero}
 use Rattle.sx_atoms.specs.Printing.{text_of}
 use Rattle.sx_atoms.specs.declared.atoms.Atom.{Atom}
 use Rattle.sx_atoms.specs.declared.atoms.Atom.TheVariants as atom
@@ -14,17 +14,17 @@ use Rattle.sx_atoms.specs.declared.numbers.Number.TheVariants as number
 -- as an integer: a decimal is cut toward zero
 abbrev pub integer_from : Atom → Result ℤ Code
 integer_from (atom.Int n) = Ok n
-integer_from (atom.Dec d) = Ok (int_div d.0 one)
+integer_from (atom.Dec d) = Ok (int_div d.0 one_unit)
 integer_from (atom.Str s) = integer_in s
 integer_from (atom.Bool b) = Ok (if b then pos 1 else pos 0)
 integer_from (atom.Untyped s) = integer_in s
 
 -- as a decimal, in units of 10^-9
 abbrev pub decimal_from : Atom → Result ℤ Code
-decimal_from (atom.Int n) = held (n *ℤ one)
+decimal_from (atom.Int n) = held_in_range (n *ℤ one_unit)
 decimal_from (atom.Dec d) = Ok d.0
 decimal_from (atom.Str s) = decimal_in s
-decimal_from (atom.Bool b) = Ok (if b then one else pos 0)
+decimal_from (atom.Bool b) = Ok (if b then one_unit else pos 0)
 decimal_from (atom.Untyped s) = decimal_in s
 
 -- as a truth value: a number is whether it is not zero
@@ -35,7 +35,7 @@ truth_from (atom.Str s) = truth_in s
 truth_from (atom.Bool b) = Ok b
 truth_from (atom.Untyped s) = truth_in s
 
--- an atom as one of another type
+-- an atom as one_unit of another type
 abbrev pub cast_of : Atom → AtomType → Result Atom Code
 cast_of a type.Integer = do
   n ← integer_from a

@@ -79,7 +79,7 @@ comparison_of operator general a b = do
   Ok (holds operator o)
 
 -- the value that the code compares
-abbrev pub seen : Comparable → Value
-seen (comparable.Quantity n) = quantity (units n)
-seen (comparable.Text s) = text s.now
-seen (comparable.Truth b) = truth b
+abbrev pub seen_value : Comparable → Value
+seen_value (comparable.Quantity n) = quantity (units n)
+seen_value (comparable.Text s) = text s.now
+seen_value (comparable.Truth b) = truth b

@@ -15,20 +15,20 @@ abbrev pub atom_of : Number → Atom
 atom_of (number.Int n) = atom.Int n
 atom_of (number.Dec d) = atom.Dec d
 
-abbrev pub type_of : Number → AtomType
-type_of (number.Int n) = type.Integer
-type_of (number.Dec d) = type.Decimal
+abbrev pub number_type : Number → AtomType
+number_type (number.Int n) = type.Integer
+number_type (number.Dec d) = type.Decimal
 
-abbrev pub content : Number → ℤ
-content (number.Int n) = n
-content (number.Dec d) = d.0
+abbrev pub exact_content : Number → ℤ
+exact_content (number.Int n) = n
+exact_content (number.Dec d) = d.0
 
 -- the order of numbers by their exact values
 abbrev pub order_of_numbers : Number → Number → Ordering
 order_of_numbers x y = int_cmp (units x) (units y)
 
 -- q is x divided by y and cut toward zero, and r is what that leaves: less than y, and on the side of zero on which x is
-pub record IsCut (x y q r : ℤ) : Type 0 where
+pub record IsQuotient (x y q r : ℤ) : Type 0 where
   pub exact : (q *ℤ y) +ℤ r ≡ x
   pub less : unsigned_abs r < unsigned_abs y
   pub above : pos 0 ≤ℤ x → pos 0 ≤ℤ r

@@ -4,7 +4,7 @@ use Rattle.std.specs.Str.{bytes_eq}
 use Rattle.std.specs.Char.{is_ascii_digit}
 use Rattle.std.specs.List.{list_all, prefix_len, suffix_len, before_first, after_first}
 use Rattle.std.specs.Str.Parse.{starts_with_minus, without_leading_sign}
-use Rattle.sx_atoms.specs.Numbers.{held}
+use Rattle.sx_atoms.specs.Numbers.{held_in_range}
 use Rattle.sx_atoms.specs.declared.error_codes.Code.{Code}
 use Rattle.sx_atoms.specs.declared.error_codes.Code.TheVariants as code
 
@@ -33,7 +33,7 @@ with_sign minus n = if minus then neg_ℤ (pos n) else pos n
 -- the integer that these digits write
 abbrev pub integer_of : Bool → List ℕ → Result ℤ Code
 integer_of minus digits =
-    if are_digits digits then held (with_sign minus (digits_value digits)) else Err code.Forg0001
+    if are_digits digits then held_in_range (with_sign minus (digits_value digits)) else Err code.Forg0001
 
 -- the integer that a text writes: digits, behind one sign or none, and white space round it
 abbrev pub integer_in : List ℕ → Result ℤ Code
@@ -51,7 +51,7 @@ units_value whole fraction = digits_value whole * 10 ^ 9 + digits_value fraction
 abbrev pub units_of : Bool → List ℕ → List ℕ → Result ℤ Code
 units_of minus whole fraction =
     if are_digits (whole ++ fraction)
-    then (if nat_le (length fraction) 9 then held (with_sign minus (units_value whole fraction))
+    then (if nat_le (length fraction) 9 then held_in_range (with_sign minus (units_value whole fraction))
     else Err code.Foca0006)
     else Err code.Forg0001
 

@@ -9,7 +9,7 @@ use Rattle.sx_atoms.specs.declared.numbers.Operands.{Operands}
 use Rattle.sx_atoms.specs.declared.numbers.Operands.TheVariants as operands
 
 infixl 10 ◌>>=◌
--- a step that may answer a code, and the next one where it does not
+-- a step that may answer a code, and the next one_unit where it does not
 abbrev pub ◌>>=◌ : {A B : Type 0} → Result A Code → (A → Result B Code) → Result B Code
 (Ok x) >>= f = f x
 (Err e) >>= f = Err e
@@ -20,23 +20,23 @@ fits (pos n) = nat_lt n (2 ^ 127)
 fits (negsuc n) = nat_lt n (2 ^ 127)
 
 -- an integer that an i128 is to hold: it is an overflow where that is not so
-abbrev pub held : ℤ → Result ℤ Code
-held z = if fits z then Ok z else Err code.Foar0002
+abbrev pub held_in_range : ℤ → Result ℤ Code
+held_in_range z = if fits z then Ok z else Err code.Foar0002
 
 -- an answer that is made by way of these integers, each of which an i128 is to hold
 abbrev pub by_way_of : {A : Type 0} → List ℤ → A → Result A Code
 by_way_of [] answer = Ok answer
 by_way_of (z ∷ zs) answer = do
-  n ← held z
+  n ← held_in_range z
   by_way_of zs answer
 
--- how many units of 10^-9 make one
-abbrev pub one : ℤ
-one = pos 1000000000
+-- how many units of 10^-9 make one_unit
+abbrev pub one_unit : ℤ
+one_unit = pos 1000000000
 
 -- the value of a number in units of 10^-9, whether an i128 holds it or not
 abbrev pub units : Number → ℤ
-units (number.Int n) = n *ℤ one
+units (number.Int n) = n *ℤ one_unit
 units (number.Dec d) = d.0
 
 -- whether a number is zero

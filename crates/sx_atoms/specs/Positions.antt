@@ -5,28 +5,28 @@ use Rattle.std.specs.Option.{option_map}
 use Rattle.sx_atoms.specs.Arguments.{number_argument}
 use Rattle.sx_atoms.specs.declared.span.Chosen.{Chosen}
 use Rattle.sx_atoms.specs.declared.span.Chosen.TheVariants as chosen
-use Rattle.sx_atoms.specs.Numbers.{◌>>=◌, one, units}
+use Rattle.sx_atoms.specs.Numbers.{◌>>=◌, one_unit, units}
 use Rattle.sx_atoms.specs.declared.atoms.Atom.{Atom}
 use Rattle.sx_atoms.specs.declared.error_codes.Code.{Code}
 use Rattle.sx_atoms.specs.declared.numbers.Number.{Number}
 
--- half of one, in units of 10^-9
+-- half of one_unit, in units of 10^-9
 abbrev pub half : ℤ
 half = pos 500000000
 
 -- the greatest integer that is no greater than a number (XPath functions and operators 3.1, 4.4.3)
 abbrev pub floor_of : Number → ℤ
-floor_of x = int_div_euclid (units x) one
+floor_of x = int_div_euclid (units x) one_unit
 
 -- the least integer that is no less than a number (4.4.2)
 abbrev pub ceiling_of : Number → ℤ
-ceiling_of x = neg_ℤ (int_div_euclid (neg_ℤ (units x)) one)
+ceiling_of x = neg_ℤ (int_div_euclid (neg_ℤ (units x)) one_unit)
 
--- the integer nearest to a number, and of two that are as near the greater one (4.4.4)
+-- the integer nearest to a number, and of two that are as near the greater one_unit (4.4.4)
 abbrev pub rounded : Number → ℤ
-rounded x = int_div_euclid (units x +ℤ half) one
+rounded x = int_div_euclid (units x +ℤ half) one_unit
 
--- what numbers select of positions: none, those from a place on, or those from a place on and before another one
+-- what numbers select of positions: none, those from a place on, or those from a place on and before another one_unit
 pub data Span : Type 0 where
   nowhere : Span
   from : ℤ → Span
@@ -43,13 +43,13 @@ abbrev pub span_from : Option Number → Span
 span_from None = nowhere
 span_from (Some a) = from (rounded a)
 
--- from the first number on as many as the second one says (14.1.8)
+-- from the first number on as many as the second one_unit says (14.1.8)
 abbrev pub span_between : Option Number → Option Number → Span
 span_between None n = nowhere
 span_between (Some a) None = nowhere
 span_between (Some a) (Some n) = between (rounded a) (rounded a +ℤ rounded n)
 
--- what the arguments of a function select, the second one of which may be missing (5.4.3, 14.1.8)
+-- what the arguments of a function select, the second one_unit of which may be missing (5.4.3, 14.1.8)
 abbrev pub span_of : List Atom → Option (List Atom) → Result Span Code
 span_of start None = do
   a ← number_argument start
@@ -59,7 +59,7 @@ span_of start (Some count) = do
   n ← number_argument count
   Ok (span_between a n)
 
--- the items at the positions that pass, where the first one has position p (14.1.8)
+-- the items at the positions that pass, where the first one_unit has position p (14.1.8)
 abbrev pub at_positions : {X : Type 0} → (ℕ → Bool) → ℕ → List X → List X
 at_positions keep p [] = []
 at_positions keep p (x ∷ xs) =
@@ -82,7 +82,7 @@ abbrev pub span_after : Option ℤ → Span
 span_after None = nowhere
 span_after (Some a) = from a
 
--- from such an integer on as many as another one says
+-- from such an integer on as many as another one_unit says
 abbrev pub span_counted : Option ℤ → Option ℤ → Span
 span_counted None n = nowhere
 span_counted (Some a) None = nowhere

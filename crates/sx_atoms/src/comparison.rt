@@ -2,8 +2,8 @@
 ghost use Rattle.std.specs.Prelude.{◌≡◌, ◌*ℤ◌, Ok, Err, MatchResult};
 ghost use Rattle.std.specs.Ordering.{int_cmp};
 ghost use Rattle.sx_atoms.specs.Comparison.{order_of, holds, value_of, read_beside, value_beside};
-ghost use Rattle.sx_atoms.specs.Comparison.{comparison_of, seen};
-ghost use Rattle.sx_atoms.specs.Numbers.{units, one};
+ghost use Rattle.sx_atoms.specs.Comparison.{comparison_of, seen_value};
+ghost use Rattle.sx_atoms.specs.Numbers.{units, one_unit};
 
 use crate::atoms::{Atom, Dec};
 use crate::error_codes::Code;
@@ -33,7 +33,7 @@ pub enum Comparable<'a> {
 
 // An integer and a number of units: one that no decimal is as great as is beyond each decimal.
 fn order_whole(n: i128, units: i128) -> Ordering
-    ensures { result ≡ int_cmp (n *ℤ one) units }
+    ensures { result ≡ int_cmp (n *ℤ one_unit) units }
 {
     match n.checked_mul(UNITS) {
         Some(whole) => whole.cmp(&units),
@@ -55,7 +55,7 @@ fn order_numbers(x: Number, y: Number) -> Ordering
 
 // The order of two values, which must be of one kind.
 fn order(x: Comparable<'_>, y: Comparable<'_>) -> Result<Ordering, Code>
-    ensures { result ≡ order_of (seen x.entry) (seen y.entry) }
+    ensures { result ≡ order_of (seen_value x.entry) (seen_value y.entry) }
 {
     match (x, y) {
         (Comparable::Quantity(a), Comparable::Quantity(b)) => Ok(order_numbers(a, b)),
@@ -66,7 +66,7 @@ fn order(x: Comparable<'_>, y: Comparable<'_>) -> Result<Ordering, Code>
 }
 
 fn value(atom: &Atom) -> Comparable<'_>
-    ensures { seen result ≡ value_of atom.now }
+    ensures { seen_value result ≡ value_of atom.now }
 {
     match atom {
         Atom::Int(n) => Comparable::Quantity(Number::Int(*n)),
@@ -79,7 +79,7 @@ fn value(atom: &Atom) -> Comparable<'_>
 // Text without a type, read as what stands beside it in a general comparison.
 fn text_beside<'a>(text: &'a str, other: &Atom) -> Result<Comparable<'a>, Code>
     ensures { MatchResult result
-        (λ x. read_beside text.now (value_of other.now) ≡ Ok (seen x))
+        (λ x. read_beside text.now (value_of other.now) ≡ Ok (seen_value x))
         (λ e. read_beside text.now (value_of other.now) ≡ Err e) }
 {
     match other {
@@ -95,7 +95,7 @@ fn text_beside<'a>(text: &'a str, other: &Atom) -> Result<Comparable<'a>, Code>
 // An operand of a comparison, general or not, beside the other one.
 fn operand<'a>(general: bool, atom: &'a Atom, other: &Atom) -> Result<Comparable<'a>, Code>
     ensures { MatchResult result
-        (λ x. value_beside general atom.now other.now ≡ Ok (seen x))
+        (λ x. value_beside general atom.now other.now ≡ Ok (seen_value x))
         (λ e. value_beside general atom.now other.now ≡ Err e) }
 {
     match atom {

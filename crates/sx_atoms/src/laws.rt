@@ -9,8 +9,8 @@ ghost use Rattle.sx_atoms.specs.Arithmetic.{with_operands, with_divisor, sum_of,
 ghost use Rattle.sx_atoms.specs.Arithmetic.{whole_quotient_of, remainder_of, dec};
 ghost use Rattle.sx_atoms.specs.Casting.{cast_of};
 ghost use Rattle.sx_atoms.specs.Comparison.{comparison_of, holds};
-ghost use Rattle.sx_atoms.specs.Laws.{atom_of, type_of, content, order_of_numbers, IsCut};
-ghost use Rattle.sx_atoms.specs.Numbers.{fits, units, one};
+ghost use Rattle.sx_atoms.specs.Laws.{atom_of, number_type, exact_content, order_of_numbers, IsQuotient};
+ghost use Rattle.sx_atoms.specs.Numbers.{fits, units, one_unit};
 ghost use Rattle.sx_atoms.specs.Positions.{floor_of, ceiling_of, rounded};
 ghost use Rattle.sx_atoms.specs.Printing.{text_of};
 ghost use Rattle.sx_atoms.specs.declared.atoms.Atom.{Atom as AnyAtom};
@@ -34,10 +34,10 @@ pub fn text_order()
 
 /// What is printed of a number casts back to it, also as text without a type.
 pub fn printing()
-    ensures text { (x : AnyNumber) → fits (content x) ≡ true
-        → cast_of (Atom.Str (text_of (atom_of x))) (type_of x) ≡ Ok (atom_of x) }
-    ensures untyped { (x : AnyNumber) → fits (content x) ≡ true
-        → cast_of (Atom.Untyped (text_of (atom_of x))) (type_of x) ≡ Ok (atom_of x) }
+    ensures text { (x : AnyNumber) → fits (exact_content x) ≡ true
+        → cast_of (Atom.Str (text_of (atom_of x))) (number_type x) ≡ Ok (atom_of x) }
+    ensures untyped { (x : AnyNumber) → fits (exact_content x) ≡ true
+        → cast_of (Atom.Untyped (text_of (atom_of x))) (number_type x) ≡ Ok (atom_of x) }
 {}
 
 /// The order of summands makes no difference; nor does it which sum is made first, where both sums of all three are held.
@@ -55,7 +55,7 @@ pub fn division()
     ensures whole { (x y r : AnyNumber) (q : ℤ)
         → with_divisor whole_quotient_of (atom_of x) (atom_of y) ≡ Ok (Atom.Int q)
         → with_divisor remainder_of (atom_of x) (atom_of y) ≡ Ok (atom_of r)
-        → IsCut (units x) (units y) q (units r) }
+        → IsQuotient (units x) (units y) q (units r) }
     ensures restored { (x y r p s : AnyNumber) (q : ℤ)
         → with_divisor whole_quotient_of (atom_of x) (atom_of y) ≡ Ok (Atom.Int q)
         → with_divisor remainder_of (atom_of x) (atom_of y) ≡ Ok (atom_of r)
@@ -63,21 +63,21 @@ pub fn division()
         → with_operands sum_of (atom_of p) (atom_of r) ≡ Ok (atom_of s) → units s ≡ units x }
     ensures quotient { (x y : AnyNumber) (d : ℤ)
         → with_divisor quotient_of (atom_of x) (atom_of y) ≡ Ok (Atom.Dec (dec d))
-        → (r : ℤ) × IsCut (units x *ℤ one) (units y) d r }
+        → (r : ℤ) × IsQuotient (units x *ℤ one_unit) (units y) d r }
     ensures product { (d e p : ℤ)
         → with_operands product_of (Atom.Dec (dec d)) (Atom.Dec (dec e)) ≡ Ok (Atom.Dec (dec p))
-        → (r : ℤ) × IsCut (d *ℤ e) one p r }
+        → (r : ℤ) × IsQuotient (d *ℤ e) one_unit p r }
 {}
 
 /// The nearest integer is no more than half of one away, and half of one only upward; the integer below a number is less than
 /// one away; and the one above is minus that below minus the number.
 pub fn rounding()
     ensures nearest_above { (x : AnyNumber)
-        → ((pos 2 *ℤ units x) -ℤ one) <ℤ ((pos 2 *ℤ rounded x) *ℤ one) }
+        → ((pos 2 *ℤ units x) -ℤ one_unit) <ℤ ((pos 2 *ℤ rounded x) *ℤ one_unit) }
     ensures nearest_below { (x : AnyNumber)
-        → ((pos 2 *ℤ rounded x) *ℤ one) ≤ℤ ((pos 2 *ℤ units x) +ℤ one) }
-    ensures floor_below { (x : AnyNumber) → (floor_of x *ℤ one) ≤ℤ units x }
-    ensures floor_above { (x : AnyNumber) → units x <ℤ ((floor_of x +ℤ pos 1) *ℤ one) }
+        → ((pos 2 *ℤ rounded x) *ℤ one_unit) ≤ℤ ((pos 2 *ℤ units x) +ℤ one_unit) }
+    ensures floor_below { (x : AnyNumber) → (floor_of x *ℤ one_unit) ≤ℤ units x }
+    ensures floor_above { (x : AnyNumber) → units x <ℤ ((floor_of x +ℤ pos 1) *ℤ one_unit) }
     ensures ceiling { (x y : AnyNumber) → units y ≡ neg_ℤ (units x)
         → ceiling_of x ≡ neg_ℤ (floor_of y) }
 {}

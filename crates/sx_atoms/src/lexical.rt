@@ -4,7 +4,7 @@ ghost use Rattle.std.specs.Prelude.{length, IsTrue, reverse};
 ghost use Rattle.std.specs.Char.{is_ascii_digit};
 ghost use Rattle.std.specs.List.{list_all, before_first, after_first, take_while, position};
 ghost use Rattle.std.specs.Str.Parse.{starts_with_minus, without_leading_sign};
-ghost use Rattle.sx_atoms.specs.Numbers.{held};
+ghost use Rattle.sx_atoms.specs.Numbers.{held_in_range};
 ghost use Rattle.sx_atoms.specs.Lexical as spec;
 ghost use Rattle.sx_atoms.specs.Lexical.{digits_value, units_of, decimal_in, integer_in, truth_in, is_point};
 
@@ -93,7 +93,7 @@ fn append_digits(number: u128, digits: &[u8]) -> u128
 
 // A number, with a minus before it or without one.
 fn with_sign(minus: bool, number: u128) -> Result<i128, Code>
-    ensures { result ≡ held (spec.with_sign minus number) }
+    ensures { result ≡ held_in_range (spec.with_sign minus number) }
 {
     let signed = if minus {
         0i128.checked_sub_unsigned(number)

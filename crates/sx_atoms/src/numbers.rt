@@ -2,7 +2,7 @@
 ghost use Rattle.std.specs.Prelude.{◌≡◌, ◌≢◌, pos, neg_ℤ, ◌+ℤ◌, ◌-ℤ◌, ◌*ℤ◌};
 ghost use Rattle.std.specs.Prelude.{int_div, int_rem, Ok};
 ghost use Rattle.sx_atoms.specs.Numbers as spec;
-ghost use Rattle.sx_atoms.specs.Numbers.{held};
+ghost use Rattle.sx_atoms.specs.Numbers.{held_in_range};
 
 use crate::atoms::Dec;
 use crate::error_codes::Code;
@@ -26,28 +26,28 @@ pub enum Operands {
 
 /// The sum, or FOAR0002.
 pub fn sum(a: i128, b: i128) -> Result<i128, Code>
-    ensures { result ≡ held (a +ℤ b) }
+    ensures { result ≡ held_in_range (a +ℤ b) }
 {
     a.checked_add(b).ok_or(Code::Foar0002)
 }
 
 /// The difference, or FOAR0002.
 pub fn difference(a: i128, b: i128) -> Result<i128, Code>
-    ensures { result ≡ held (a -ℤ b) }
+    ensures { result ≡ held_in_range (a -ℤ b) }
 {
     a.checked_sub(b).ok_or(Code::Foar0002)
 }
 
 /// The opposite, or FOAR0002.
 pub fn opposite(n: i128) -> Result<i128, Code>
-    ensures { result ≡ held (neg_ℤ n) }
+    ensures { result ≡ held_in_range (neg_ℤ n) }
 {
     difference(0, n)
 }
 
 /// The product, or FOAR0002.
 pub fn product(a: i128, b: i128) -> Result<i128, Code>
-    ensures { result ≡ held (a *ℤ b) }
+    ensures { result ≡ held_in_range (a *ℤ b) }
 {
     a.checked_mul(b).ok_or(Code::Foar0002)
 }
@@ -55,7 +55,7 @@ pub fn product(a: i128, b: i128) -> Result<i128, Code>
 /// The quotient, cut toward zero, or FOAR0002.
 pub fn quotient(a: i128, b: i128) -> Result<i128, Code>
     requires { b ≢ pos 0 }
-    ensures { result ≡ held (int_div a b) }
+    ensures { result ≡ held_in_range (int_div a b) }
 {
     a.checked_div(b).ok_or(Code::Foar0002)
 }
@@ -63,7 +63,7 @@ pub fn quotient(a: i128, b: i128) -> Result<i128, Code>
 /// The remainder, with the sign of the dividend.
 pub fn remainder(a: i128, b: i128) -> i128
     requires { b ≢ pos 0 }
-    ensures { held (int_rem a b) ≡ Ok result }
+    ensures { held_in_range (int_rem a b) ≡ Ok result }
 {
     a.wrapping_rem(b)
 }

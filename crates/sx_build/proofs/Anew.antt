@@ -5,7 +5,7 @@ use Rattle.std.proofs.Math.Bool.{or-false}
 use Rattle.std.proofs.lemmas.List.{take_all}
 use Rattle.sx_lines.specs.declared.events.Pair.{Pair}
 use Rattle.sx_named.specs.Named.{Name, Attribute}
-use Rattle.sx_build.specs.FixUp.{Binding, Fixed, is_one_of, attribute_prefixes}
+use Rattle.sx_build.specs.FixUp.{Binding, Fixed, is_text_among, attribute_prefixes}
 use Rattle.sx_build.specs.Build.{printed_name, declaration_pairs, attribute_pairs}
 use Rattle.sx_build.specs.Kept.{attributes_with, name_prefixes, fixed_at, fixed_anew, fixed_pairs}
 use Rattle.sx_build.proofs.Fixing.{used_after, joined, fix-append, fix_one-used}
@@ -45,16 +45,16 @@ or_swap true false z = refl
 or_swap false y z = refl
 
 used_is : (used : List (List ℕ)) (attributes : List Attribute) (prefix : List ℕ)
-    → is_one_of (used_after used attributes) prefix ≡ (is_one_of used prefix || is_one_of (attribute_prefixes attributes) prefix)
-used_is used [] prefix = sym (or-false (is_one_of used prefix))
+    → is_text_among (used_after used attributes) prefix ≡ (is_text_among used prefix || is_text_among (attribute_prefixes attributes) prefix)
+used_is used [] prefix = sym (or-false (is_text_among used prefix))
 used_is used (a ∷ rest) prefix =
     used_is (a.name.prefix ∷ used) rest prefix
-    ∙ or_swap (bytes_eq a.name.prefix prefix) (is_one_of used prefix) (is_one_of (attribute_prefixes rest) prefix)
+    ∙ or_swap (bytes_eq a.name.prefix prefix) (is_text_among used prefix) (is_text_among (attribute_prefixes rest) prefix)
 
-used_in_order : (prefix : List ℕ) (attributes : List Attribute) (p : List ℕ) → is_one_of (used_after (prefix ∷ []) attributes) p ≡ is_one_of (prefix ∷ attribute_prefixes attributes) p
+used_in_order : (prefix : List ℕ) (attributes : List Attribute) (p : List ℕ) → is_text_among (used_after (prefix ∷ []) attributes) p ≡ is_text_among (prefix ∷ attribute_prefixes attributes) p
 used_in_order prefix attributes p =
     used_is (prefix ∷ []) attributes p
-    ∙ ap (λ (t : Bool). t || is_one_of (attribute_prefixes attributes) p) (or-false (bytes_eq prefix p))
+    ∙ ap (λ (t : Bool). t || is_text_among (attribute_prefixes attributes) p) (or-false (bytes_eq prefix p))
 
 -- ---- one attribute more
 
@@ -76,7 +76,7 @@ module _ (bound : List Binding) (prefix : List ℕ) (names : List Name) (own : L
       fix-append bound (prefix ∷ name_prefixes names) own (prefix ∷ []) before (a ∷ [])
       ∙ ap (joined (fixed before))
       (fix_one-used bound (prefix ∷ name_prefixes names) (fixed before).declared (used_after (prefix ∷ []) before) (prefix ∷ name_prefixes (take at names)) a
-      (used_in_order prefix before a.name.prefix ∙ ap (λ (ts : List (List ℕ)). is_one_of (prefix ∷ ts) a.name.prefix) same))
+      (used_in_order prefix before a.name.prefix ∙ ap (λ (ts : List (List ℕ)). is_text_among (prefix ∷ ts) a.name.prefix) same))
 
   -- the pairs of a start with one attribute more
   pub pairs_more : (f g : Fixed) → fixed_pairs (joined f g) ≡ declaration_pairs g.declared ++ (attribute_pairs f.attributes ++ attribute_pairs g.attributes)

@@ -5,7 +5,7 @@ use Rattle.std.specs.Prelude.{bytes_eq, ◌||◌}
 use Rattle.std.proofs.lemmas.Bool.{or_right, or_parts}
 use Rattle.sx_lines.specs.declared.events.Pair.{Pair}
 use Rattle.sx_named.specs.Named.{Attribute}
-use Rattle.sx_build.specs.FixUp.{Binding, Fixed, bind, with_prefix, put_attribute, prefixes, is_empty, is_bound, is_in_use, is_one_of, free_prefix, fix_attributes}
+use Rattle.sx_build.specs.FixUp.{Binding, Fixed, bind, with_prefix, put_attribute, prefixes, is_empty_text, is_bound, is_in_use, is_text_among, free_prefix, fix_attributes}
 use Rattle.sx_build.specs.Build.{attribute_pairs}
 use Rattle.sx_build.specs.Kept.{ArePlain}
 use Rattle.sx_build.proofs.InForces.{bytes_eq-sym}
@@ -68,12 +68,12 @@ module _ (bound : List Binding) (present : List (List ℕ)) where
       (sym (fix_first declared used x xs))
 
   -- only whether its prefix is in use is asked of one attribute
-  pub fix_one-used : (declared : List Binding) (used used' : List (List ℕ)) (a : Attribute) → is_one_of used a.name.prefix ≡ is_one_of used' a.name.prefix
+  pub fix_one-used : (declared : List Binding) (used used' : List (List ℕ)) (a : Attribute) → is_text_among used a.name.prefix ≡ is_text_among used' a.name.prefix
       → fix_attributes bound present declared used (a ∷ []) ≡ fix_attributes bound present declared used' (a ∷ [])
   fix_one-used declared used used' a same =
       fix_first declared used a []
-      ∙ ap (λ (t : Bool). put_attribute (printed_by (is_bound (declared ++ bound) a.name) (is_empty a.name.prefix || t) (free_with declared) a)
-      (record { declared = declared_by (is_bound (declared ++ bound) a.name) (is_empty a.name.prefix || t) declared (free_with declared) a; attributes = [] })) same
+      ∙ ap (λ (t : Bool). put_attribute (printed_by (is_bound (declared ++ bound) a.name) (is_empty_text a.name.prefix || t) (free_with declared) a)
+      (record { declared = declared_by (is_bound (declared ++ bound) a.name) (is_empty_text a.name.prefix || t) declared (free_with declared) a; attributes = [] })) same
       ∙ sym (fix_first declared used' a [])
 
   -- what is declared stays
@@ -148,20 +148,20 @@ module _ (bound : List Binding) (present : List (List ℕ)) where
 
 -- a prefix that the element or an attribute has already, or that is not declared for this start
 abbrev pub IsOther : List (List ℕ) → Fixed → List ℕ → Type 0
-IsOther present f p = (is_one_of present p ≡ true) ⊎ (is_one_of (prefixes f.declared) p ≡ false)
+IsOther present f p = (is_text_among present p ≡ true) ⊎ (is_text_among (prefixes f.declared) p ≡ false)
 
 length-prefixes : (bs : List Binding) → length (prefixes bs) ≡ length bs
 length-prefixes bs = length-map bs (λ (b : Binding). b.prefix)
 
 -- a prefix that is not declared differs from one that is
-differs : (declared more : List Binding) (b : Binding) (p : List ℕ) → is_one_of (prefixes ((declared ++ b ∷ []) ++ more)) p ≡ false → bytes_eq p b.prefix ≡ false
+differs : (declared more : List Binding) (b : Binding) (p : List ℕ) → is_text_among (prefixes ((declared ++ b ∷ []) ++ more)) p ≡ false → bytes_eq p b.prefix ≡ false
 differs declared more b p not =
     let front = one_of-append (prefixes (declared ++ b ∷ [])) (prefixes more) p in
     let back = one_of-append (prefixes declared) (b.prefix ∷ []) p in
-    let split : is_one_of (prefixes (declared ++ b ∷ [])) p ≡ false =
-    (or_parts _ _ (sym front ∙ ap (λ (ts : List (List ℕ)). is_one_of ts p) (sym (map-append (λ (c : Binding). c.prefix) (declared ++ b ∷ []) more)) ∙ not)).0 in
+    let split : is_text_among (prefixes (declared ++ b ∷ [])) p ≡ false =
+    (or_parts _ _ (sym front ∙ ap (λ (ts : List (List ℕ)). is_text_among ts p) (sym (map-append (λ (c : Binding). c.prefix) (declared ++ b ∷ []) more)) ∙ not)).0 in
     let last : (bytes_eq b.prefix p || false) ≡ false =
-    (or_parts _ _ (sym back ∙ ap (λ (ts : List (List ℕ)). is_one_of ts p) (sym (map-append (λ (c : Binding). c.prefix) declared (b ∷ []))) ∙ split)).1 in
+    (or_parts _ _ (sym back ∙ ap (λ (ts : List (List ℕ)). is_text_among ts p) (sym (map-append (λ (c : Binding). c.prefix) declared (b ∷ []))) ∙ split)).1 in
     bytes_eq-sym p b.prefix ∙ (or_parts _ _ last).0
 
 module _ (bound : List Binding) (present : List (List ℕ)) (p : List ℕ) where
@@ -190,11 +190,11 @@ module _ (bound : List Binding) (present : List (List ℕ)) (p : List ℕ) where
       ap free_prefix (sym (append_assoc (prefixes (declared ++ bound)) present (p ∷ [])))
       ∙ free_prefix-same taken p (omega (arith, small, count, fewer)) (by other)
     where
-      by : IsOther present f p → (is_one_of (prefixes (declared ++ bound) ++ present) p ≡ true) ⊎ (bytes_eq p (free_with bound present declared) ≡ false)
+      by : IsOther present f p → (is_text_among (prefixes (declared ++ bound) ++ present) p ≡ true) ⊎ (bytes_eq p (free_with bound present declared) ≡ false)
       by (inl there) = inl (one_of-append (prefixes (declared ++ bound)) present p ∙ or_right _ _ there)
       by (inr none) =
           inr (differs declared more (bind (free_with bound present declared) uri) p
-          (ap (λ (ds : List Binding). is_one_of (prefixes ds) p) (sym grown) ∙ none))
+          (ap (λ (ds : List Binding). is_text_among (prefixes ds) p) (sym grown) ∙ none))
 
   abbrev with_tests : Bool → Bool → List (List ℕ) → List Binding → List (List ℕ) → Attribute → List Attribute → Fixed
   with_tests t u among declared used a rest =

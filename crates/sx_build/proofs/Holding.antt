@@ -8,11 +8,11 @@ use Rattle.std.proofs.lemmas.Option.{slice_get-get_or}
 use Rattle.sx_lines.specs.declared.events.Pair.{Pair}
 use Rattle.sx_named.specs.Named.{Name, Attribute}
 use Rattle.sx_build.specs.Content.{Held, with_attribute}
-use Rattle.sx_build.specs.FixUp.{Binding, Fixed, first_bound, is_one_of, prefixes, attribute_prefixes, declared_for, fix_attributes, fix_up}
+use Rattle.sx_build.specs.FixUp.{Binding, Fixed, first_bound, is_text_among, prefixes, attribute_prefixes, declared_for, fix_attributes, fix_up}
 use Rattle.sx_build.specs.Build.{declaration_pairs, attribute_pairs}
-use Rattle.sx_build.specs.Kept.{names_of, AreNamed, name_prefixes, attributes_with, with_one, fixed_at, fixed_anew, fixed_pairs, HoldsAs}
+use Rattle.sx_build.specs.Kept.{names_of_attributes, AreNamed, name_prefixes, attributes_with, with_one, fixed_at, fixed_anew, fixed_pairs, HoldsAs}
 use Rattle.sx_build.specs.declared.withheld.Withheld.{Withheld}
-use Rattle.sx_build.specs.Withheld.{Holds}
+use Rattle.sx_build.specs.Withheld.{HoldsStart}
 use Rattle.sx_build.proofs.Pairs.{declarations-append, length-declarations}
 use Rattle.sx_build.proofs.Fixing.{joined, declared_grows, values_stay, IsOther, fix_more}
 use Rattle.sx_build.proofs.Anew.{fixed_more, pairs_more, pair_behind}
@@ -27,7 +27,7 @@ FixedAnew bound v w =
 
 -- what is said of a start with other declarations and pairs
 pub kept_holds : (bound : List Binding) (h : Held) (v w : Withheld) → w ≡ record v { declared = w.declared; pairs = w.pairs }
-    → HoldsAs bound h v.name v.prefix v.own w.declared.items w.pairs.items v.names.items → Holds bound h w
+    → HoldsAs bound h v.name v.prefix v.own w.declared.items w.pairs.items v.names.items → HoldsStart bound h w
 kept_holds bound h v w kept s =
     subst (λ (x : Withheld). HoldsAs bound h x.name x.prefix x.own w.declared.items w.pairs.items x.names.items) (sym kept) s
 
@@ -39,16 +39,16 @@ few declared outer names prefix small_declared small_outer small_names =
 
 -- ---- names and values
 
-pub named : (names : List Name) (attributes : List Attribute) → names ≡ names_of attributes → AreNamed names attributes
+pub named : (names : List Name) (attributes : List Attribute) → names ≡ names_of_attributes attributes → AreNamed names attributes
 named [] [] are = tt
 named [] (a ∷ rest) are = absurd (cc)
 named (n ∷ ns) attributes are = are
 
-prefixes_of : (attributes : List Attribute) → name_prefixes (names_of attributes) ≡ attribute_prefixes attributes
+prefixes_of : (attributes : List Attribute) → name_prefixes (names_of_attributes attributes) ≡ attribute_prefixes attributes
 prefixes_of [] = refl
 prefixes_of (a ∷ rest) = ap (λ (ts : List (List ℕ)). a.name.prefix ∷ ts) (prefixes_of rest)
 
-length-names : (attributes : List Attribute) → length (names_of attributes) ≡ length attributes
+length-names : (attributes : List Attribute) → length (names_of_attributes attributes) ≡ length attributes
 length-names attributes = length-map attributes (λ (a : Attribute). a.name)
 
 length-attribute_pairs : (attributes : List Attribute) → length (attribute_pairs attributes) ≡ length attributes
@@ -60,7 +60,7 @@ values ps = map (λ (p : Pair). p.value) ps
 
 -- attributes are what their names and their values say
 same_attributes : (attributes : List Attribute) (tail : List Pair) → map (λ (p : Pair). p.value) tail ≡ map (λ (a : Attribute). a.value) attributes
-    → attributes_with (names_of attributes) tail ≡ attributes
+    → attributes_with (names_of_attributes attributes) tail ≡ attributes
 same_attributes [] tail are = refl
 same_attributes (a ∷ rest) [] are = absurd (cc)
 same_attributes (a ∷ rest) (p ∷ ps) are =
@@ -93,7 +93,7 @@ last_there (n ∷ ns) name = last_there ns name
 -- ---- a start that was fixed up
 
 -- what is fixed anew is the fix-up
-anew_is : (bound : List Binding) (prefix : List ℕ) (names : List Name) (name : Name) (attributes : List Attribute) → prefix ≡ name.prefix → names ≡ names_of attributes
+anew_is : (bound : List Binding) (prefix : List ℕ) (names : List Name) (name : Name) (attributes : List Attribute) → prefix ≡ name.prefix → names ≡ names_of_attributes attributes
     → fixed_anew bound prefix names (declared_for bound name) attributes ≡ fix_up bound name attributes
 anew_is bound prefix names name attributes same are =
     ap₂ (λ (x : List ℕ) (ts : List (List ℕ)). fix_attributes bound (x ∷ ts) (declared_for bound name) (x ∷ []) attributes) same
@@ -147,7 +147,7 @@ module _ (bound : List Binding) (h : Held) (printed prefix : List ℕ) (own : �
   -- ---- all attributes were fixed anew
 
   pub fixed_holds : (names' : List Name) (attributes' : List Attribute) (pairs' pairs'' : List Pair) (declared'' : List Binding)
-      → names' ≡ names_of attributes' → take own pairs' ≡ take own pairs
+      → names' ≡ names_of_attributes attributes' → take own pairs' ≡ take own pairs
       → attributes_with names' (drop (length declared) pairs') ≡ attributes' → length names' ≤ length (drop (length declared) pairs')
       → (take own pairs' ≡ declaration_pairs (take own declared) → length names' ≤ length (drop (length declared) pairs')
       → let g = fixed_anew bound prefix names' (take own declared) (attributes_with names' (drop (length declared) pairs')) in
@@ -169,7 +169,7 @@ module _ (bound : List Binding) (h : Held) (printed prefix : List ℕ) (own : �
   -- ---- an attribute takes the place of another one
 
   pub replaced_holds : (at skip : ℕ) (name : Name) (value : List ℕ) (names' : List Name) (pairs' pairs'' : List Pair) (declared'' : List Binding)
-      → names ≡ names_of h.attributes → at < length names → skip ≡ length declared
+      → names ≡ names_of_attributes h.attributes → at < length names → skip ≡ length declared
       → with_attribute h.attributes (record { name = name; value = value }) ≡ set h.attributes at (record { name = name; value = value })
       → names' ≡ set names at name
       → ((p : Pair) → slice_get pairs (skip + at) ≡ Some p → pairs' ≡ set pairs (skip + at) (record { name = p.name; value = value }))
@@ -197,27 +197,27 @@ module _ (bound : List Binding) (h : Held) (printed prefix : List ℕ) (own : �
       ∙ set_attributes names tail at name q
       ∙ ap (λ (x : List Attribute). set x at a) (ap (λ (ns : List Name). attributes_with ns tail) are ∙ same_attributes h.attributes tail tail_values)
       ∙ sym in_place in
-      let new_names : names' ≡ names_of (with_attribute h.attributes a) =
+      let new_names : names' ≡ names_of_attributes (with_attribute h.attributes a) =
       is_names ∙ ap (λ (ns : List Name). set ns at name) are
       ∙ sym (map-set (λ (b : Attribute). b.name) h.attributes at a)
-      ∙ ap names_of (sym in_place) in
+      ∙ ap names_of_attributes (sym in_place) in
       fixed_holds names' (with_attribute h.attributes a) pairs' pairs'' declared'' new_names same_own all
       (omega (arith, ap length is_names, length-set names at name, ap length new_tail, length-set tail at q, count)) fixed
 
   -- ---- an attribute goes behind the others
 
-  tail_count : names ≡ names_of h.attributes → length names ≡ length tail
+  tail_count : names ≡ names_of_attributes h.attributes → length names ≡ length tail
   tail_count are = ap length are ∙ length-names h.attributes ∙ sym length-tail
 
-  new_names : (name : Name) (value : List ℕ) → names ≡ names_of h.attributes
-      → names ++ name ∷ [] ≡ names_of (h.attributes ++ record { name = name; value = value } ∷ [])
+  new_names : (name : Name) (value : List ℕ) → names ≡ names_of_attributes h.attributes
+      → names ++ name ∷ [] ≡ names_of_attributes (h.attributes ++ record { name = name; value = value } ∷ [])
   new_names name value are =
       ap (λ (ns : List Name). ns ++ name ∷ []) are
       ∙ sym (map-append (λ (b : Attribute). b.name) h.attributes (record { name = name; value = value } ∷ []))
 
   -- all are fixed anew
   pub appended_holds : (name : Name) (printed' value : List ℕ) (names' : List Name) (pairs' pairs'' : List Pair) (declared'' : List Binding)
-      → names ≡ names_of h.attributes
+      → names ≡ names_of_attributes h.attributes
       → with_attribute h.attributes (record { name = name; value = value }) ≡ h.attributes ++ record { name = name; value = value } ∷ []
       → names' ≡ names ++ name ∷ [] → pairs' ≡ pairs ++ record { name = printed'; value = value } ∷ []
       → (take own pairs' ≡ declaration_pairs (take own declared) → length names' ≤ length (drop (length declared) pairs')
@@ -239,11 +239,11 @@ module _ (bound : List Binding) (h : Held) (printed prefix : List ℕ) (own : �
       ∙ more_attributes names tail name q (tail_count are)
       ∙ ap (λ (x : List Attribute). x ++ a ∷ []) (ap (λ (ns : List Name). attributes_with ns tail) are ∙ same_attributes h.attributes tail tail_values)
       ∙ sym behind in
-      fixed_holds names' (with_attribute h.attributes a) pairs' pairs'' declared'' (is_names ∙ new_names name value are ∙ ap names_of (sym behind)) same_own all
+      fixed_holds names' (with_attribute h.attributes a) pairs' pairs'' declared'' (is_names ∙ new_names name value are ∙ ap names_of_attributes (sym behind)) same_own all
       (omega (arith, ap length is_names, length-append names (name ∷ []), ap length new_tail, length-append tail (q ∷ []), tail_count are)) fixed
 
   -- it is fixed by itself
-  by_itself : (name : Name) (value : List ℕ) → names ≡ names_of h.attributes
+  by_itself : (name : Name) (value : List ℕ) → names ≡ names_of_attributes h.attributes
       → IsOther (prefix ∷ name_prefixes names) f name.prefix → length declared + length bound + length (prefix ∷ name_prefixes names) < 10 ^ 64
       → let a : Attribute = record { name = name; value = value } in
       let names' = names ++ name ∷ [] in
@@ -270,10 +270,10 @@ module _ (bound : List Binding) (h : Held) (printed prefix : List ℕ) (own : �
       ∙ ap (λ (ds : List Binding). joined f (fixed_at bound prefix names' ds (length names) a)) (sym s.declared_is)
 
   pub placed_holds : (name : Name) (value : List ℕ) (names' : List Name) (at : ℕ) (pairs'' : List Pair) (declared'' : List Binding)
-      → names ≡ names_of h.attributes
+      → names ≡ names_of_attributes h.attributes
       → with_attribute h.attributes (record { name = name; value = value }) ≡ h.attributes ++ record { name = name; value = value } ∷ []
       → names' ≡ names ++ name ∷ [] → at ≡ length names
-      → false ≡ (is_one_of (prefixes declared) name.prefix && not (is_one_of (prefix ∷ name_prefixes names) name.prefix))
+      → false ≡ (is_text_among (prefixes declared) name.prefix && not (is_text_among (prefix ∷ name_prefixes names) name.prefix))
       → length declared + length bound + length (prefix ∷ name_prefixes names) < 10 ^ 64
       → ((n : Name) → slice_get names' at ≡ Some n → declared'' ≡ (fixed_at bound prefix names' declared at (record { name = n; value = value })).declared)
       → ((n : Name) (ps : List Pair) → slice_get names' at ≡ Some n → pairs ≡ declaration_pairs declared ++ ps
@@ -298,7 +298,7 @@ module _ (bound : List Binding) (h : Held) (printed prefix : List ℕ) (own : �
         pairs_are = places name tail there split
             ∙ sym (pairs_more bound prefix names' declared f (fixed_at bound prefix names' declared at a))
             ∙ ap fixed_pairs is;
-        names_are = named names' (with_attribute h.attributes a) (is_names ∙ new_names name value are ∙ ap names_of (sym behind));
+        names_are = named names' (with_attribute h.attributes a) (is_names ∙ new_names name value are ∙ ap names_of_attributes (sym behind));
       }
     where
       by : (d u : Bool) → false ≡ (d && not u) → (u ≡ true) ⊎ (d ≡ false)
@@ -306,8 +306,8 @@ module _ (bound : List Binding) (h : Held) (printed prefix : List ℕ) (own : �
       by true true isnt = inl refl
       by true false isnt = absurd (cc)
 
-      other : false ≡ (is_one_of (prefixes declared) name.prefix && not (is_one_of (prefix ∷ name_prefixes names) name.prefix))
+      other : false ≡ (is_text_among (prefixes declared) name.prefix && not (is_text_among (prefix ∷ name_prefixes names) name.prefix))
           → IsOther (prefix ∷ name_prefixes names) f name.prefix
       other isnt =
-          subst (λ (ds : List Binding). (is_one_of (prefix ∷ name_prefixes names) name.prefix ≡ true) ⊎ (is_one_of (prefixes ds) name.prefix ≡ false)) s.declared_is
-          (by (is_one_of (prefixes declared) name.prefix) (is_one_of (prefix ∷ name_prefixes names) name.prefix) isnt)
+          subst (λ (ds : List Binding). (is_text_among (prefix ∷ name_prefixes names) name.prefix ≡ true) ⊎ (is_text_among (prefixes ds) name.prefix ≡ false)) s.declared_is
+          (by (is_text_among (prefixes declared) name.prefix) (is_text_among (prefix ∷ name_prefixes names) name.prefix) isnt)

@@ -9,7 +9,7 @@ use Rattle.sx_named.specs.Named.{Name, Attribute}
 use Rattle.sx_build.specs.Content.{Held, with_attribute}
 use Rattle.sx_build.specs.FixUp.{Binding, Fixed, attribute_prefixes, declared_for, fix_up}
 use Rattle.sx_build.specs.Build.{printed_name, declaration_pairs, attribute_pairs}
-use Rattle.sx_build.specs.Kept.{names_of, plain_name, plain_names, ArePlain, AreNamed, with_one, fixed_pairs, HoldsAs}
+use Rattle.sx_build.specs.Kept.{names_of_attributes, plain_name, plain_names, ArePlain, AreNamed, with_one, fixed_pairs, HoldsAs}
 use Rattle.sx_build.proofs.Pairs.{length-declarations}
 use Rattle.sx_build.proofs.Fixing.{fix_plain}
 use Rattle.sx_build.proofs.Anew.{pairs-append, pair_behind}
@@ -30,7 +30,7 @@ plain_more : (attributes : List Attribute) (local value : List ℕ) → ArePlain
 plain_more [] local value plain = (refl, tt)
 plain_more (a ∷ rest) local value plain = (plain.0, plain_more rest local value plain.1)
 
-names_plain : (attributes : List Attribute) → ArePlain attributes → plain_names (attribute_pairs attributes) ≡ names_of attributes
+names_plain : (attributes : List Attribute) → ArePlain attributes → plain_names (attribute_pairs attributes) ≡ names_of_attributes attributes
 names_plain [] plain = refl
 names_plain (a ∷ rest) plain =
     ap₂ (λ (n : Name) (ns : List Name). n ∷ ns) (ap (λ (n : Name). plain_name (printed_name n)) plain.0 ∙ sym plain.0) (names_plain rest plain.1)
@@ -69,7 +69,7 @@ module _ (bound : List Binding) (h : Held) (printed prefix : List ℕ) (own : �
   whole = split bound h printed prefix own declared pairs names s ∙ ap (λ (f : Fixed). declaration_pairs declared ++ attribute_pairs f.attributes) (fixed_is h.attributes plain)
 
   -- the names of the attributes
-  pub plain_names_are : plain_names (drop (length declared) pairs) ≡ names_of h.attributes
+  pub plain_names_are : plain_names (drop (length declared) pairs) ≡ names_of_attributes h.attributes
   plain_names_are = ap plain_names tail_plain ∙ names_plain h.attributes plain
 
   -- with other attributes of the kind
@@ -133,11 +133,11 @@ module _ (bound : List Binding) (h : Held) (printed prefix : List ℕ) (own : �
 
   -- with the names of its attributes
   pub names_kept : (from : ℕ) (found : List Pair) (names' : List Name) → from ≡ length declared → found ≡ pairs → names' ≡ plain_names (drop from found)
-      → names' ≡ names_of h.attributes
+      → names' ≡ names_of_attributes h.attributes
   names_kept from found names' is_from is_found are =
       are ∙ ap₂ (λ (n : ℕ) (ps : List Pair). plain_names (drop n ps)) is_from is_found ∙ plain_names_are
 
-  pub kept_holds : (names' : List Name) → names' ≡ names_of h.attributes → HoldsAs bound h printed prefix own declared pairs names'
+  pub kept_holds : (names' : List Name) → names' ≡ names_of_attributes h.attributes → HoldsAs bound h printed prefix own declared pairs names'
   kept_holds names' are = record {
     printed_is = s.printed_is;
     prefix_is = s.prefix_is;

@@ -9,7 +9,7 @@ use Rattle.sx_lines.specs.declared.events.Pair.{Pair}
 use Rattle.sx_named.specs.Named.{Name, is_same_name, Attribute}
 use Rattle.sx_build.specs.Content.{with_attribute}
 use Rattle.sx_build.specs.Build.{printed_name, attribute_pairs}
-use Rattle.sx_build.specs.Kept.{names_of, plain_name, ArePlain}
+use Rattle.sx_build.specs.Kept.{names_of_attributes, plain_name, ArePlain}
 
 -- the place of a list's first item that passes a test, where with_attribute puts an attribute
 pub record IsPlace (attributes : List Attribute) (a : Attribute) (from place : ℕ) : Type 0 where
@@ -43,38 +43,38 @@ first_place false b rest a from place other is found next =
       put = ap (λ (t : Bool). cond t (a ∷ rest) (b ∷ with_attribute rest a)) is ∙ ap (λ (x : List Attribute). b ∷ x) later.put;
     }
 
-place_from : (attributes : List Attribute) (a : Attribute) (from place : ℕ) → position_from (has_name a.name) from (names_of attributes) ≡ Some place
+place_from : (attributes : List Attribute) (a : Attribute) (from place : ℕ) → position_from (has_name a.name) from (names_of_attributes attributes) ≡ Some place
     → IsPlace attributes a from place
 place_from [] a from place found = absurd (cc)
 place_from (b ∷ rest) a from place found =
-    first_place (is_same_name b.name a.name) b rest a from place (position_from (has_name a.name) (from + 1) (names_of rest)) refl found
+    first_place (is_same_name b.name a.name) b rest a from place (position_from (has_name a.name) (from + 1) (names_of_attributes rest)) refl found
     (place_from rest a (from + 1) place)
 
 no_place : (t : Bool) (from : ℕ) (other : Option ℕ) → cond t (Some from) other ≡ None → (t ≡ false) × (other ≡ None)
 no_place true from other none = absurd (cc)
 no_place false from other none = (refl, none)
 
-none_from : (attributes : List Attribute) (a : Attribute) (from : ℕ) → position_from (has_name a.name) from (names_of attributes) ≡ None
+none_from : (attributes : List Attribute) (a : Attribute) (from : ℕ) → position_from (has_name a.name) from (names_of_attributes attributes) ≡ None
     → with_attribute attributes a ≡ attributes ++ a ∷ []
 none_from [] a from none = refl
 none_from (b ∷ rest) a from none =
-    let parts = no_place (is_same_name b.name a.name) from (position_from (has_name a.name) (from + 1) (names_of rest)) none in
+    let parts = no_place (is_same_name b.name a.name) from (position_from (has_name a.name) (from + 1) (names_of_attributes rest)) none in
     ap (λ (t : Bool). cond t (a ∷ rest) (b ∷ with_attribute rest a)) parts.0
     ∙ ap (λ (x : List Attribute). b ∷ x) (none_from rest a (from + 1) parts.1)
 
 -- where names are kept
-pub in_place : (attributes : List Attribute) (names : List Name) (a : Attribute) (at : ℕ) → names ≡ names_of attributes → Some at ≡ position (has_name a.name) names
+pub in_place : (attributes : List Attribute) (names : List Name) (a : Attribute) (at : ℕ) → names ≡ names_of_attributes attributes → Some at ≡ position (has_name a.name) names
     → with_attribute attributes a ≡ set attributes at a
 in_place attributes names a at are found =
     let p = place_from attributes a 0 at
-    (sym (position_from-zero (has_name a.name) (names_of attributes)) ∙ ap (position (has_name a.name)) (sym are) ∙ sym found) in
+    (sym (position_from-zero (has_name a.name) (names_of_attributes attributes)) ∙ ap (position (has_name a.name)) (sym are) ∙ sym found) in
     let same : p.steps ≡ at = omega (arith, p.is) in
     p.put ∙ ap (λ (n : ℕ). set attributes n a) same
 
-pub behind_all : (attributes : List Attribute) (names : List Name) (a : Attribute) → names ≡ names_of attributes → None ≡ position (has_name a.name) names
+pub behind_all : (attributes : List Attribute) (names : List Name) (a : Attribute) → names ≡ names_of_attributes attributes → None ≡ position (has_name a.name) names
     → with_attribute attributes a ≡ attributes ++ a ∷ []
 behind_all attributes names a are none =
-    none_from attributes a 0 (sym (position_from-zero (has_name a.name) (names_of attributes)) ∙ ap (position (has_name a.name)) (sym are) ∙ sym none)
+    none_from attributes a 0 (sym (position_from-zero (has_name a.name) (names_of_attributes attributes)) ∙ ap (position (has_name a.name)) (sym are) ∙ sym none)
 
 -- ---- where names are printed as they are
 
@@ -90,7 +90,7 @@ same_test b local plain =
     ∙ ap (λ (n : Name). is_same_name n (plain_name local)) (sym plain)
 
 same_places : (attributes : List Attribute) (local : List ℕ) (from : ℕ) → ArePlain attributes
-    → position_from (λ (p : Pair). bytes_eq p.name local) from (attribute_pairs attributes) ≡ position_from (has_name (plain_name local)) from (names_of attributes)
+    → position_from (λ (p : Pair). bytes_eq p.name local) from (attribute_pairs attributes) ≡ position_from (has_name (plain_name local)) from (names_of_attributes attributes)
 same_places [] local from plain = refl
 same_places (b ∷ rest) local from plain =
     ap₂ (λ (t : Bool) (o : Option ℕ). cond t (Some from) o) (same_test b local plain.0) (same_places rest local (from + 1) plain.1)

@@ -15,7 +15,7 @@ use Rattle.sx_build.specs.Asked.{Asked, prints}
 use Rattle.sx_build.specs.Content.{Held, spaced, misplaced}
 use Rattle.sx_build.specs.FixUp.{Binding}
 use Rattle.sx_build.specs.Build.{Open, error_of, Build}
-use Rattle.sx_build.specs.Course.{Course, at_work, held_start, with_held, text_gives, after_text, after_attribute, gives_unless, gives_in, gives, after_unless, after_in, after, reached}
+use Rattle.sx_build.specs.Course.{Construction, at_work, held_start, with_held, text_gives, after_text, after_attribute, gives_unless, gives_in, built_by, after_unless, after_in, after, constructed}
 use Rattle.sx_build.specs.Builder.{AreOpen, HoldsNone, HoldsOne, HoldsBack, Withholds, KeepsTo, KeepsAt, StandsFor, answer_of}
 use Rattle.sx_build.proofs.Courses.{error_is, reached_one, Build_is, Build_ended, Build_stopped, stopped_holds}
 use Rattle.sx_build.proofs.Standing.{settled_pending}
@@ -28,10 +28,10 @@ IsTaken b b' a =
     → KeepsTo (after_in os held behind_atom a) b' (fixed ++ gives_in os held behind_atom a)
 
 abbrev pub IsStep : Builder → Builder → Asked → Type 0
-IsStep b b' a = (c : Course) (fixed : List Built) → KeepsTo c b fixed → KeepsTo (after c a) b' (fixed ++ gives c a)
+IsStep b b' a = (c : Construction) (fixed : List Built) → KeepsTo c b fixed → KeepsTo (after c a) b' (fixed ++ built_by c a)
 
-taken_by : (b b' : Builder) (a : Asked) (error : Option Code) → is_some b.error ≡ false → IsTaken b b' a → (c : Course) (fixed : List Built) → c.error ≡ error
-    → KeepsTo c b fixed → KeepsTo (after c a) b' (fixed ++ gives c a)
+taken_by : (b b' : Builder) (a : Asked) (error : Option Code) → is_some b.error ≡ false → IsTaken b b' a → (c : Construction) (fixed : List Built) → c.error ≡ error
+    → KeepsTo c b fixed → KeepsTo (after c a) b' (fixed ++ built_by c a)
 taken_by b b' a (Some code) none step c fixed is s =
     absurd (false≢true (sym none ∙ ap (λ (e : Option Code). is_some e) (s.error_is ∙ is)))
 taken_by b b' a None none step c fixed is s =
@@ -46,17 +46,17 @@ taken b b' a none step = λ c fixed s. taken_by b b' a c.error none step c fixed
 -- ---- one request more
 
 module _ (b b' : Builder) (a : Asked) (step : IsStep b b' a) (asked : List Asked) (given : ℕ) (s : StandsFor b asked false given) where
-  next : KeepsTo (reached (asked ++ a ∷ [])) b' (s.fixed ++ gives (reached asked) a)
+  next : KeepsTo (constructed (asked ++ a ∷ [])) b' (s.fixed ++ built_by (constructed asked) a)
   next =
-      subst (λ (c : Course). KeepsTo c b' (s.fixed ++ gives (reached asked) a)) (sym (reached_one asked a)) (step (reached asked) s.fixed s.keeps)
+      subst (λ (c : Construction). KeepsTo c b' (s.fixed ++ built_by (constructed asked) a)) (sym (reached_one asked a)) (step (constructed asked) s.fixed s.keeps)
 
   pub stands_more : StandsFor b' (asked ++ a ∷ []) false given
   stands_more = record {
     front = s.front;
-    fixed = s.fixed ++ gives (reached asked) a;
+    fixed = s.fixed ++ built_by (constructed asked) a;
     count = s.count;
-    due = sym (append_assoc s.front s.fixed (gives (reached asked) a))
-        ∙ ap (λ (es : List Built). es ++ gives (reached asked) a) s.due
+    due = sym (append_assoc s.front s.fixed (built_by (constructed asked) a))
+        ∙ ap (λ (es : List Built). es ++ built_by (constructed asked) a) s.due
         ∙ sym (adds_one asked a);
     keeps = next;
   }
@@ -108,27 +108,27 @@ misplaced_taken os (Some h) behind_atom fixed b a code none is s =
 -- ---- the end
 
 -- what is withheld at the end of what was asked for
-abbrev start_left : Course → List Built
+abbrev start_left : Construction → List Built
 start_left c = held_start c.elements c.held
 
-ended_by : (asked : List Asked) (error : Option Code) (front fixed : List Built) → (reached asked).error ≡ error → front ++ fixed ≡ Build asked false
-    → front ++ (fixed ++ start_left (reached asked)) ≡ Build asked true
+ended_by : (asked : List Asked) (error : Option Code) (front fixed : List Built) → (constructed asked).error ≡ error → front ++ fixed ≡ Build asked false
+    → front ++ (fixed ++ start_left (constructed asked)) ≡ Build asked true
 ended_by asked (Some code) front fixed is due =
     ap (λ (es : List Built). front ++ (fixed ++ es)) (stopped_holds asked code is)
     ∙ ap (λ (es : List Built). front ++ es) (append-nil fixed)
     ∙ due ∙ Build_is asked ∙ sym (Build_stopped asked code is)
 ended_by asked None front fixed is due =
-    sym (append_assoc front fixed (start_left (reached asked)))
-    ∙ ap (λ (es : List Built). es ++ start_left (reached asked)) (due ∙ Build_is asked)
+    sym (append_assoc front fixed (start_left (constructed asked)))
+    ∙ ap (λ (es : List Built). es ++ start_left (constructed asked)) (due ∙ Build_is asked)
     ∙ sym (Build_ended asked is)
 
 module _ (b b' : Builder) (asked : List Asked) (given : ℕ) (s : StandsFor b asked false given) where
-  pub stands_ended : b'.withheld ≡ None → b'.pending.items ≡ s.fixed ++ start_left (reached asked) → StandsFor b' asked true given
+  pub stands_ended : b'.withheld ≡ None → b'.pending.items ≡ s.fixed ++ start_left (constructed asked) → StandsFor b' asked true given
   stands_ended none is = record {
     front = s.front;
-    fixed = s.fixed ++ start_left (reached asked);
+    fixed = s.fixed ++ start_left (constructed asked);
     count = s.count;
-    due = ended_by asked (reached asked).error s.front s.fixed refl s.due;
+    due = ended_by asked (constructed asked).error s.front s.fixed refl s.due;
     keeps = record { none_withheld = none; pending_is = is };
   }
 
@@ -170,7 +170,7 @@ module _ (b : Builder) (asked : List Asked) (given : ℕ) where
   pub gives_rest : (at_end : Bool) → StandsFor b asked at_end given → b.pending.items ≡ drop given (Build asked at_end)
   gives_rest true s = s.keeps.pending_is ∙ is_due true s
   gives_rest false s =
-      let c = reached asked in
+      let c = constructed asked in
       pending_fixed c.elements c.held b.withheld b.elements b.bindings.items b.pending s.fixed s.keeps.withholds ∙ is_due false s
 
 -- ---- all that is fixed was given
@@ -197,7 +197,7 @@ module _ (pending pending' : Vec Built) (none : pending'.items ≡ []) (empty : 
       → KeepsAt at_end asked (record b { pending = pending' }) []
   cleared_at b asked true fixed is s = record { none_withheld = s.none_withheld; pending_is = none }
   cleared_at b asked false fixed is s =
-      let c = reached asked in
+      let c = constructed asked in
       record {
         withholds = cleared c.elements c.held b.withheld b.elements b.bindings.items fixed
             (subst (λ (p : Vec Built). HoldsBack c.elements c.held b.withheld b.elements b.bindings.items p fixed) is s.withholds);

@@ -5,7 +5,7 @@ use Rattle.std.specs.Prelude.{slice_get}
 use Rattle.std.proofs.Common.{get_or, Some}
 use Rattle.std.proofs.lemmas.Option.{get_or_from_slice_get}
 use Rattle.sx_named.specs.Named.{Name}
-use Rattle.sx_build.specs.FixUp.{Binding, bind, is_in_use, prefixes, is_one_of, numbered_prefix, first_free}
+use Rattle.sx_build.specs.FixUp.{Binding, bind, is_in_use, prefixes, is_text_among, numbered_prefix, first_free}
 use Rattle.sx_build.specs.InForce.{in_force}
 use Rattle.sx_build.proofs.Prefixes.{one_of-append}
 
@@ -23,20 +23,20 @@ binding_by in_use used free prefix uri name found same tested named valued =
 
 -- what is bound, and other prefixes
 pub taken_by : (ds ds' outer : List Binding) (ts : List (List ℕ)) (prefix : List ℕ) (found : Bool) → ds' ≡ ds
-    → found ≡ is_one_of (prefixes (ds' ++ in_force outer)) prefix
-    → is_one_of (prefixes (ds ++ in_force outer) ++ ts) prefix ≡ (found || is_one_of ts prefix)
+    → found ≡ is_text_among (prefixes (ds' ++ in_force outer)) prefix
+    → is_text_among (prefixes (ds ++ in_force outer) ++ ts) prefix ≡ (found || is_text_among ts prefix)
 taken_by ds ds' outer ts prefix found same is =
     one_of-append (prefixes (ds ++ in_force outer)) ts prefix
-    ∙ ap (λ (t : Bool). t || is_one_of ts prefix)
-    (ap (λ (d : List Binding). is_one_of (prefixes (d ++ in_force outer)) prefix) (sym same) ∙ sym is)
+    ∙ ap (λ (t : Bool). t || is_text_among ts prefix)
+    (ap (λ (d : List Binding). is_text_among (prefixes (d ++ in_force outer)) prefix) (sym same) ∙ sym is)
 
 -- a number more is tried
-pub next_number : (taken : List (List ℕ)) (count number : ℕ) (prefix : List ℕ) → number < count → prefix ≡ numbered_prefix number → true ≡ is_one_of taken prefix
+pub next_number : (taken : List (List ℕ)) (count number : ℕ) (prefix : List ℕ) → number < count → prefix ≡ numbered_prefix number → true ≡ is_text_among taken prefix
     → first_free (count - number) taken number ≡ first_free (count - (number + 1)) taken (number + 1)
 next_number taken count number prefix less is there =
     let left : count - number ≡ suc (count - (number + 1)) = omega arith in
     let next : suc number ≡ number + 1 = omega arith in
     ap (λ (n : ℕ). first_free n taken number) left
     ∙ ap (λ (t : Bool). cond t (first_free (count - (number + 1)) taken (suc number)) (numbered_prefix number))
-    (ap (is_one_of taken) (sym is) ∙ sym there)
+    (ap (is_text_among taken) (sym is) ∙ sym there)
     ∙ ap (first_free (count - (number + 1)) taken) next

@@ -37,20 +37,20 @@ pub record Open : Type 0 where
   pub bound : List Binding
 
 -- the bindings in force in the innermost of these elements
-abbrev pub bound_in : List Open → List Binding
-bound_in [] = first_bound
-bound_in (o ∷ os) = o.bound
+abbrev pub bindings_in : List Open → List Binding
+bindings_in [] = first_bound
+bindings_in (o ∷ os) = o.bound
 
 -- the open element that starts where these are open
-abbrev pub opened : List Open → Name → Fixed → Open
-opened os name f = record { name = printed_name name; bound = f.declared ++ bound_in os }
+abbrev pub element_opened : List Open → Name → Fixed → Open
+element_opened os name f = record { name = printed_name name; bound = f.declared ++ bindings_in os }
 
 -- parts as they are built where these elements are open, the innermost first
 abbrev pub built_in : List Open → List Part → List Built
 built_in os [] = []
 built_in os (start name attributes ∷ ps) =
-    let f = fix_up (bound_in os) name attributes in
-    printed_start name f ∷ built_in (opened os name f ∷ os) ps
+    let f = fix_up (bindings_in os) name attributes in
+    printed_start name f ∷ built_in (element_opened os name f ∷ os) ps
 built_in [] (end ∷ ps) = built_in [] ps
 built_in (o ∷ os) (end ∷ ps) = event.End o.name ∷ built_in os ps
 built_in os (text s ∷ ps) = event.Text s ∷ built_in os ps

@@ -10,9 +10,9 @@ use Rattle.sx_build.specs.Asked.{Asked}
 use Rattle.sx_build.specs.Content.{Held}
 use Rattle.sx_build.specs.FixUp.{Binding}
 use Rattle.sx_build.specs.Build.{Open, printed_name, Build}
-use Rattle.sx_build.specs.Course.{Course, reached, at_work, after_in, gives_in, held_start, with_held}
+use Rattle.sx_build.specs.Course.{Construction, constructed, at_work, after_in, gives_in, held_start, with_held}
 use Rattle.sx_build.specs.InForce.{in_force}
-use Rattle.sx_build.specs.Withheld.{Holds}
+use Rattle.sx_build.specs.Withheld.{HoldsStart}
 
 -- memory was wanting in a push: the builder takes nothing more
 abbrev pub is_spent : Builder → Bool
@@ -44,7 +44,7 @@ pub record HoldsOne (os : List Open) (h : Held) (w : Withheld) (elements : List 
   pub last_name : last.name ≡ printed_name h.name
   pub last_begins : last.begins ≡ length bindings
   pub are_open : AreOpen os (reverse rest) bindings
-  pub holds : Holds (in_force bindings) h w
+  pub holds : HoldsStart (in_force bindings) h w
   pub pending_is : pending.items ≡ fixed
   pub room : vec_len pending < vec_capacity pending
 
@@ -59,7 +59,7 @@ abbrev pub Withholds : List Open → Option Held → Builder → List Built → 
 Withholds os held b fixed = HoldsBack os held b.withheld b.elements b.bindings.items b.pending fixed
 
 -- what building has come to, and what is fixed and was not given
-pub record KeepsTo (c : Course) (b : Builder) (fixed : List Built) : Type 0 where
+pub record KeepsTo (c : Construction) (b : Builder) (fixed : List Built) : Type 0 where
   pub withholds : Withholds c.elements c.held b fixed
   pub behind_is : b.behind_atom ≡ c.behind_atom
   pub error_is : b.error ≡ c.error
@@ -70,7 +70,7 @@ pub record IsEnded (b : Builder) (fixed : List Built) : Type 0 where
   pub pending_is : b.pending.items ≡ fixed
 
 abbrev pub KeepsAt : Bool → List Asked → Builder → List Built → Type 0
-KeepsAt false asked b fixed = KeepsTo (reached asked) b fixed
+KeepsAt false asked b fixed = KeepsTo (constructed asked) b fixed
 KeepsAt true asked b fixed = IsEnded b fixed
 
 -- of the built events of what was asked for, front was given, and fixed can be given
@@ -86,7 +86,7 @@ abbrev pub BuilderStands : Builder → List Asked → Bool → ℕ → Type 0
 BuilderStands b asked at_end given = StandsFor b asked at_end given
 
 -- What building had come to, with what was fixed, it came to with what is behind it; and so much more is fixed.
-abbrev pub KeepsOn : (List Open → Option Held → Bool → Course) → (List Open → Option Held → Bool → List Built) → Builder → Builder → Type 0
+abbrev pub KeepsOn : (List Open → Option Held → Bool → Construction) → (List Open → Option Held → Bool → List Built) → Builder → Builder → Type 0
 KeepsOn onward added old new =
     (os : List Open) (held : Option Held) (behind_atom : Bool) (fixed : List Built) →
     KeepsTo (at_work os held behind_atom) old fixed →

@@ -13,9 +13,9 @@ spaced true s = 32 ∷ s
 spaced false s = s
 
 -- a text, where it is not empty
-abbrev pub text_of : List ℕ → List Asked
-text_of [] = []
-text_of (b ∷ bs) = says (b ∷ bs) ∷ []
+abbrev pub said_text : List ℕ → List Asked
+said_text [] = []
+said_text (b ∷ bs) = says (b ∷ bs) ∷ []
 
 -- with atoms as texts and without empty texts, where an atom did or did not come before
 abbrev pub in_texts : Bool → List Asked → List Asked
@@ -23,8 +23,8 @@ in_texts behind_atom [] = []
 in_texts behind_atom (starts name ∷ rest) = starts name ∷ in_texts false rest
 in_texts behind_atom (ends ∷ rest) = ends ∷ in_texts false rest
 in_texts behind_atom (has a ∷ rest) = has a ∷ in_texts false rest
-in_texts behind_atom (says s ∷ rest) = text_of s ++ in_texts false rest
-in_texts behind_atom (prints s ∷ rest) = text_of (spaced behind_atom s) ++ in_texts true rest
+in_texts behind_atom (says s ∷ rest) = said_text s ++ in_texts false rest
+in_texts behind_atom (prints s ∷ rest) = said_text (spaced behind_atom s) ++ in_texts true rest
 in_texts behind_atom (instructs target content ∷ rest) = instructs target content ∷ in_texts false rest
 
 -- ---- attributes
@@ -66,8 +66,8 @@ misplaced zero = error.Xtde0420
 misplaced (suc n) = error.Xtde0410
 
 -- nothing follows an error
-abbrev pub stopped : Code → Parts
-stopped c = record { parts = []; error = Some c }
+abbrev pub stopped_at : Code → Parts
+stopped_at c = record { parts = []; error = Some c }
 
 abbrev pub no_parts : Parts
 no_parts = record { parts = []; error = None }
@@ -86,7 +86,7 @@ abbrev pub parts_from : ℕ → Option Held → List Asked → Parts
 parts_from depth held [] = put_parts (held_part held) no_parts
 parts_from depth held (starts name ∷ rest) = put_parts (held_part held) (parts_from (suc depth) (Some (record { name = name; attributes = [] })) rest)
 parts_from depth held (ends ∷ rest) = put_parts (held_part held ++ end_part depth) (parts_from (one_less depth) None rest)
-parts_from depth None (has a ∷ rest) = stopped (misplaced depth)
+parts_from depth None (has a ∷ rest) = stopped_at (misplaced depth)
 parts_from depth (Some h) (has a ∷ rest) = parts_from depth (Some (record { name = h.name; attributes = with_attribute h.attributes a })) rest
 parts_from depth held (says s ∷ rest) = put_parts (held_part held ++ text s ∷ []) (parts_from depth None rest)
 parts_from depth held (prints s ∷ rest) = put_parts (held_part held ++ text s ∷ []) (parts_from depth None rest)

@@ -13,13 +13,13 @@ abbrev pub binds : List Binding → List ℕ → List ℕ → Bool
 binds [] prefix uri = false
 binds (b ∷ bs) prefix uri = if bytes_eq b.prefix prefix then bytes_eq b.uri uri else binds bs prefix uri
 
-abbrev pub is_one_of : List (List ℕ) → List ℕ → Bool
-is_one_of [] s = false
-is_one_of (t ∷ ts) s = bytes_eq t s || is_one_of ts s
+abbrev pub is_text_among : List (List ℕ) → List ℕ → Bool
+is_text_among [] s = false
+is_text_among (t ∷ ts) s = bytes_eq t s || is_text_among ts s
 
-abbrev pub is_empty : List ℕ → Bool
-is_empty [] = true
-is_empty (b ∷ bs) = false
+abbrev pub is_empty_text : List ℕ → Bool
+is_empty_text [] = true
+is_empty_text (b ∷ bs) = false
 
 abbrev pub prefixes : List Binding → List (List ℕ)
 prefixes bs = map (λ b. b.prefix) bs
@@ -34,7 +34,7 @@ numbered_prefix k = codes "ns" ++ decimal k
 -- the first of the numbered prefixes from k on that is none of these, among so many and one more
 abbrev pub first_free : ℕ → List (List ℕ) → ℕ → List ℕ
 first_free zero taken k = numbered_prefix k
-first_free (suc n) taken k = if is_one_of taken (numbered_prefix k) then first_free n taken (suc k) else numbered_prefix k
+first_free (suc n) taken k = if is_text_among taken (numbered_prefix k) then first_free n taken (suc k) else numbered_prefix k
 
 -- the first of `ns0`, `ns1` and so on that is none of these
 abbrev pub free_prefix : List (List ℕ) → List ℕ
@@ -61,11 +61,11 @@ declared_for bound name = if binds bound name.prefix name.uri then [] else bind 
 -- an attribute needs nothing: it is in no namespace, or its prefix is bound to its namespace; an attribute without a prefix
 -- is in no namespace, whatever the default namespace is
 abbrev pub is_bound : List Binding → Name → Bool
-is_bound bound name = is_empty name.uri || (not (is_empty name.prefix) && binds bound name.prefix name.uri)
+is_bound bound name = is_empty_text name.uri || (not (is_empty_text name.prefix) && binds bound name.prefix name.uri)
 
 -- a prefix cannot be declared for an attribute: it is empty, or the element or an earlier attribute has it
 abbrev pub is_in_use : List (List ℕ) → List ℕ → Bool
-is_in_use used prefix = is_empty prefix || is_one_of used prefix
+is_in_use used prefix = is_empty_text prefix || is_text_among used prefix
 
 module _ (bound : List Binding) (present : List (List ℕ)) where
   -- attributes, where this is declared so far, and the element and earlier attributes have these prefixes

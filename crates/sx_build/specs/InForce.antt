@@ -3,9 +3,9 @@ use Rattle.std.specs.Prelude.{ℕ, bytes_eq, List, [], ◌∷◌, ◌++◌, reve
 use Rattle.sx_build.specs.FixUp.{Binding, first_bound}
 
 -- the first binding of a prefix
-abbrev pub first_of : List Binding → List ℕ → Option Binding
-first_of [] prefix = None
-first_of (b ∷ bs) prefix = if bytes_eq b.prefix prefix then Some b else first_of bs prefix
+abbrev pub first_binding : List Binding → List ℕ → Option Binding
+first_binding [] prefix = None
+first_binding (b ∷ bs) prefix = if bytes_eq b.prefix prefix then Some b else first_binding bs prefix
 
 -- what is in force where elements have declared this, the innermost last
 abbrev pub in_force : List Binding → List Binding

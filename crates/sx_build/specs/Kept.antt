@@ -6,8 +6,8 @@ use Rattle.sx_build.specs.Content.{Held, with_attribute}
 use Rattle.sx_build.specs.FixUp.{Binding, Fixed, declared_for, fix_attributes, fix_up}
 use Rattle.sx_build.specs.Build.{printed_name, declaration_pairs, attribute_pairs}
 
-abbrev pub names_of : List Attribute → List Name
-names_of attributes = map (λ a. a.name) attributes
+abbrev pub names_of_attributes : List Attribute → List Name
+names_of_attributes attributes = map (λ a. a.name) attributes
 
 abbrev pub name_with : List ℕ → List ℕ → List ℕ → Name
 name_with prefix uri local = record { prefix = prefix; uri = uri; local = local }
@@ -24,7 +24,7 @@ ArePlain (a ∷ rest) = (a.name ≡ plain_name a.name.local) × ArePlain rest
 -- the names of attributes are these, or there are none and each attribute has a name without a prefix in no namespace
 abbrev pub AreNamed : List Name → List Attribute → Type 0
 AreNamed [] attributes = ArePlain attributes
-AreNamed (n ∷ ns) attributes = n ∷ ns ≡ names_of attributes
+AreNamed (n ∷ ns) attributes = n ∷ ns ≡ names_of_attributes attributes
 
 abbrev pub name_prefixes : List Name → List (List ℕ)
 name_prefixes names = map (λ n. n.prefix) names

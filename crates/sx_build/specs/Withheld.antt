@@ -6,5 +6,5 @@ use Rattle.sx_build.specs.FixUp.{Binding}
 use Rattle.sx_build.specs.Kept.{HoldsAs}
 
 -- it stands for a start that is held where these bindings are in force
-abbrev pub Holds : List Binding → Held → Withheld → Type 0
-Holds bound h w = HoldsAs bound h w.name w.prefix w.own w.declared.items w.pairs.items w.names.items
+abbrev pub HoldsStart : List Binding → Held → Withheld → Type 0
+HoldsStart bound h w = HoldsAs bound h w.name w.prefix w.own w.declared.items w.pairs.items w.names.items

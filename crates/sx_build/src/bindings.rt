@@ -1,7 +1,7 @@
 // Bindings of prefixes to namespaces, and which of them are in force.
 ghost use Rattle.std.specs.Prelude.{◌≡◌, ◌++◌, reverse};
 ghost use Rattle.std.specs.Option.{option_copied};
-ghost use Rattle.sx_build.specs.InForce.{first_of, in_force};
+ghost use Rattle.sx_build.specs.InForce.{first_binding, in_force};
 ghost use Rattle.sx_build.specs.FixUp as fix;
 
 use std::marker::Model;
@@ -47,7 +47,7 @@ impl Binding {
 
 // The first of these that binds a prefix.
 fn first<'a>(bindings: &'a [Binding], prefix: &str) -> Option<&'a Binding>
-    ensures { option_copied result ≡ first_of bindings.now prefix.now }
+    ensures { option_copied result ≡ first_binding bindings.now prefix.now }
 {
     for binding in bindings {
         if binding.prefix() == prefix {
@@ -59,7 +59,7 @@ fn first<'a>(bindings: &'a [Binding], prefix: &str) -> Option<&'a Binding>
 
 // The last of these that binds a prefix.
 fn last<'a>(bindings: &'a [Binding], prefix: &str) -> Option<&'a Binding>
-    ensures { option_copied result ≡ first_of (reverse bindings.now) prefix.now }
+    ensures { option_copied result ≡ first_binding (reverse bindings.now) prefix.now }
 {
     for at in (0..bindings.len()).rev() {
         if bindings[at].prefix() == prefix {
@@ -71,7 +71,7 @@ fn last<'a>(bindings: &'a [Binding], prefix: &str) -> Option<&'a Binding>
 
 /// Whether one of these binds a prefix.
 pub fn declares(bindings: &[Binding], prefix: &str) -> bool
-    ensures { result ≡ fix.is_one_of (fix.prefixes bindings.now) prefix.now }
+    ensures { result ≡ fix.is_text_among (fix.prefixes bindings.now) prefix.now }
 {
     first(bindings, prefix).is_some()
 }
@@ -79,7 +79,7 @@ pub fn declares(bindings: &[Binding], prefix: &str) -> bool
 /// The binding of a prefix where an element declares some, in order, and the elements around it have declared others, the
 /// innermost last.
 pub fn declared<'a>(own: &'a [Binding], outer: &'a [Binding], prefix: &str) -> Option<&'a Binding>
-    ensures { option_copied result ≡ first_of (own.now ++ reverse outer.now) prefix.now }
+    ensures { option_copied result ≡ first_binding (own.now ++ reverse outer.now) prefix.now }
 {
     match first(own, prefix) {
         Some(binding) => Some(binding),
@@ -99,14 +99,14 @@ pub fn binds(own: &[Binding], outer: &[Binding], prefix: &str, uri: &str) -> boo
 
 /// Whether a prefix is bound there.
 pub fn has_binding(own: &[Binding], outer: &[Binding], prefix: &str) -> bool
-    ensures { result ≡ fix.is_one_of (fix.prefixes (own.now ++ in_force outer.now)) prefix.now }
+    ensures { result ≡ fix.is_text_among (fix.prefixes (own.now ++ in_force outer.now)) prefix.now }
 {
     declared(own, outer, prefix).is_some() || is_bound_at_first(prefix)
 }
 
 // Whether a prefix is bound before anything is declared.
 fn is_bound_at_first(prefix: &str) -> bool
-    ensures { result ≡ fix.is_one_of (fix.prefixes fix.first_bound) prefix.now }
+    ensures { result ≡ fix.is_text_among (fix.prefixes fix.first_bound) prefix.now }
 {
     prefix == "xml" || prefix.is_empty()
 }

@@ -73,8 +73,8 @@ impl Builder {
     ghost use Rattle.sx_build.specs.Content.{misplaced};
     ghost use Rattle.sx_build.specs.Build.{Build, Open, error_of};
     ghost use Rattle.sx_build.specs.Content.{Held as HeldStart};
-    ghost use Rattle.sx_build.specs.Course.{Course, at_work, gives, gives_in, after, after_in, held_start};
-    ghost use Rattle.sx_build.specs.Course.{with_held, text_gives, after_text};
+    ghost use Rattle.sx_build.specs.Course.{Construction, at_work, built_by, gives_in, after, after_in};
+    ghost use Rattle.sx_build.specs.Course.{held_start, with_held, text_gives, after_text};
     ghost use Rattle.sx_build.specs.Builder.{BuilderStands, KeepsTo, KeepsOn, KeepsAsked, Settles, answer_of};
     ghost use Rattle.sx_build.specs.Builder.{is_spent};
 
@@ -137,9 +137,9 @@ impl Builder {
 
     // Takes what comes next, unless there was an error.
     fn take(&mut self, raw: Raw, names: &Names) -> Result<(), AllocError>
-        ensures keeps { OnOk result ((c : Course) (fixed : List Event) → KeepsTo c self.old fixed
+        ensures keeps { OnOk result ((c : Construction) (fixed : List Event) → KeepsTo c self.old fixed
             → KeepsTo (after c (asked_at names.now raw)) self.new (fixed
-            ++ gives c (asked_at names.now raw))) }
+            ++ built_by c (asked_at names.now raw))) }
         ensures kept { OnOk result (is_spent self.new ≡ is_spent self.old) }
     {
         if self.error.is_some() {

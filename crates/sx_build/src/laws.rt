@@ -5,7 +5,7 @@ ghost use Rattle.sx_atoms.specs.declared.error_codes.Code.{Code};
 ghost use Rattle.sx_lines.specs.declared.events.Built.{Built};
 ghost use Rattle.sx_build.specs.Asked.{Asked};
 ghost use Rattle.sx_build.specs.Build.{Build, error_of};
-ghost use Rattle.sx_build.specs.FixUp.{free_prefix, is_one_of};
+ghost use Rattle.sx_build.specs.FixUp.{free_prefix, is_text_among};
 
 /// What is asked for later only adds to what is built, and after an error nothing is added.
 pub fn growth()
@@ -20,5 +20,5 @@ pub fn growth()
 /// A numbered prefix that is given to an attribute is none that is bound or used.
 pub fn fresh()
     ensures { (taken : List (List ℕ)) → length taken < 10 ^ 64
-        → is_one_of taken (free_prefix taken) ≡ false }
+        → is_text_among taken (free_prefix taken) ≡ false }
 {}

@@ -10,8 +10,8 @@ ghost use Rattle.sx_build.specs.Content as content;
 ghost use Rattle.sx_build.specs.FixUp as fix;
 ghost use Rattle.sx_build.specs.Build as spec;
 ghost use Rattle.sx_build.specs.InForce.{in_force};
-ghost use Rattle.sx_build.specs.Kept.{with_one, fixed_at, fixed_anew, fixed_pairs, attributes_with, names_of};
-ghost use Rattle.sx_build.specs.Kept.{name_prefixes, plain_name, plain_names};
+ghost use Rattle.sx_build.specs.Kept.{with_one, fixed_at, fixed_anew, fixed_pairs, attributes_with};
+ghost use Rattle.sx_build.specs.Kept.{names_of_attributes, name_prefixes, plain_name, plain_names};
 
 use crate::bindings::{Binding, binds, declares, has_binding};
 use crate::names::{Name, declaration_name, local_at, numbered_prefix, prefixed, uri_at};
@@ -51,7 +51,7 @@ fn is_bound(own: &[Binding], outer: &[Binding], name: &Name) -> bool
 
 // Whether one of these names has a prefix.
 fn have_prefix(names: &[Name], prefix: &str) -> bool
-    ensures { result ≡ fix.is_one_of (name_prefixes names.now) prefix.now }
+    ensures { result ≡ fix.is_text_among (name_prefixes names.now) prefix.now }
 {
     for name in names {
         if name.prefix() == prefix {
@@ -117,7 +117,7 @@ fn first_pairs(alloc: Global, pairs: &[Pair], count: usize) -> Result<Vec<Pair>,
 }
 
 impl Withheld {
-    ghost use Rattle.sx_build.specs.Withheld.{Holds};
+    ghost use Rattle.sx_build.specs.Withheld.{HoldsStart};
 
     /// The start of an element that has no attributes yet, where the elements around it have declared these bindings.
     pub fn new(
@@ -126,7 +126,7 @@ impl Withheld {
         names: &Names,
         outer: &[Binding],
     ) -> Result<Withheld, AllocError>
-        ensures { IfOk result (λ start. Holds (in_force outer.now)
+        ensures { IfOk result (λ start. HoldsStart (in_force outer.now)
             (record { name = named.name_at names.now label; attributes = [] }) start) }
     {
         let uri = uri_at(names, label.number);
@@ -214,7 +214,7 @@ impl Withheld {
     fn uses(&self, count: usize, prefix: &str) -> bool
         requires { count ≤ length self.now.names.items }
         ensures { result
-            ≡ fix.is_one_of (self.now.prefix ∷ name_prefixes (take count self.now.names.items))
+            ≡ fix.is_text_among (self.now.prefix ∷ name_prefixes (take count self.now.names.items))
             prefix.now }
     {
         self.prefix.as_str() == prefix || have_prefix(&self.names[..count], prefix)
@@ -233,7 +233,7 @@ impl Withheld {
     // Whether a prefix is bound, or the element or one of its attributes has it.
     fn is_taken(&self, outer: &[Binding], prefix: &str) -> bool
         ensures { result
-            ≡ fix.is_one_of (fix.prefixes (self.now.declared.items ++ in_force outer.now)
+            ≡ fix.is_text_among (fix.prefixes (self.now.declared.items ++ in_force outer.now)
             ++ self.now.prefix ∷ name_prefixes self.now.names.items) prefix.now }
     {
         has_binding(&self.declared, outer, prefix) || self.uses(self.names.len(), prefix)
@@ -342,8 +342,8 @@ impl Withheld {
     // Whether a prefix was given to an attribute in the place of its own: it is declared here, and neither the element nor
     // an attribute has it.
     fn was_given(&self, prefix: &str) -> bool
-        ensures { result ≡ (fix.is_one_of (fix.prefixes self.now.declared.items) prefix.now
-            && not (fix.is_one_of (self.now.prefix ∷ name_prefixes self.now.names.items) prefix.now)) }
+        ensures { result ≡ (fix.is_text_among (fix.prefixes self.now.declared.items) prefix.now
+            && not (fix.is_text_among (self.now.prefix ∷ name_prefixes self.now.names.items) prefix.now)) }
     {
         declares(&self.declared, prefix) && !self.uses(self.names.len(), prefix)
     }
@@ -358,11 +358,12 @@ impl Withheld {
         outer: &[Binding],
     ) -> Result<(), AllocError>
         requires { at < length self.old.names.items }
-        ensures { OnOk result ((h : content.Held) → Holds (in_force outer.now) h self.old
-            → self.old.names.items ≡ names_of h.attributes
+        ensures { OnOk result ((h : content.Held) → HoldsStart (in_force outer.now) h self.old
+            → self.old.names.items ≡ names_of_attributes h.attributes
             → content.with_attribute h.attributes (record { name = name; value = value })
             ≡ slice_set h.attributes at (record { name = name; value = value })
-            → Holds (in_force outer.now) (with_one h (record { name = name; value = value })) self.new) }
+            → HoldsStart (in_force outer.now) (with_one h (record { name = name; value = value }))
+            self.new) }
     {
         let place = self.declared.len() + at;
         self.names[at] = name;
@@ -378,11 +379,12 @@ impl Withheld {
         value: Chars,
         outer: &[Binding],
     ) -> Result<(), AllocError>
-        ensures { OnOk result ((h : content.Held) → Holds (in_force outer.now) h self.old
-            → self.old.names.items ≡ names_of h.attributes
+        ensures { OnOk result ((h : content.Held) → HoldsStart (in_force outer.now) h self.old
+            → self.old.names.items ≡ names_of_attributes h.attributes
             → content.with_attribute h.attributes (record { name = name; value = value })
             ≡ h.attributes ++ record { name = name; value = value } ∷ []
-            → Holds (in_force outer.now) (with_one h (record { name = name; value = value })) self.new) }
+            → HoldsStart (in_force outer.now) (with_one h (record { name = name; value = value }))
+            self.new) }
     {
         let given = self.was_given(name.prefix());
         let at = self.names.len();
@@ -403,9 +405,10 @@ impl Withheld {
         value: Chars,
         outer: &[Binding],
     ) -> Result<(), AllocError>
-        ensures { OnOk result ((h : content.Held) → Holds (in_force outer.now) h self.old
-            → self.old.names.items ≡ names_of h.attributes
-            → Holds (in_force outer.now) (with_one h (record { name = name; value = value })) self.new) }
+        ensures { OnOk result ((h : content.Held) → HoldsStart (in_force outer.now) h self.old
+            → self.old.names.items ≡ names_of_attributes h.attributes
+            → HoldsStart (in_force outer.now) (with_one h (record { name = name; value = value }))
+            self.new) }
     {
         match place_of(&self.names, &name) {
             Some(at) => self.replace(alloc, at, name, value, outer),
@@ -415,10 +418,12 @@ impl Withheld {
 
     // The names of the attributes are kept from now on.
     fn keep_names(&mut self, alloc: Global) -> Result<(), AllocError>
-        ensures holds { OnOk result ((bound : List fix.Binding) (h : content.Held) → Holds bound h self.old
-            → Holds bound h self.new) }
-        ensures names { OnOk result ((bound : List fix.Binding) (h : content.Held) → Holds bound h self.old
-            → self.new.names.items ≡ names_of h.attributes) }
+        ensures holds { OnOk result ((bound : List fix.Binding) (h : content.Held)
+            → HoldsStart bound h self.old
+            → HoldsStart bound h self.new) }
+        ensures names { OnOk result ((bound : List fix.Binding) (h : content.Held)
+            → HoldsStart bound h self.old
+            → self.new.names.items ≡ names_of_attributes h.attributes) }
     {
         if self.names.is_empty() {
             self.names = names_from(alloc, &self.pairs, self.declared.len())?;
@@ -428,9 +433,10 @@ impl Withheld {
 
     // An attribute more without a prefix in no namespace, where no other kinds have come.
     fn add_plain(&mut self, alloc: Global, local: &str, value: Chars) -> Result<(), AllocError>
-        ensures { OnOk result ((bound : List fix.Binding) (h : content.Held) → Holds bound h self.old
+        ensures { OnOk result ((bound : List fix.Binding) (h : content.Held) → HoldsStart bound h self.old
             → self.old.names.items ≡ []
-            → Holds bound (with_one h (record { name = plain_name local.now; value = value })) self.new) }
+            → HoldsStart bound (with_one h (record { name = plain_name local.now; value = value }))
+            self.new) }
     {
         match pair_place(&self.pairs, self.declared.len(), local) {
             Some(at) => {
@@ -449,8 +455,8 @@ impl Withheld {
         names: &Names,
         outer: &[Binding],
     ) -> Result<(), AllocError>
-        ensures { OnOk result ((h : content.Held) → Holds (in_force outer.now) h self.old
-            → Holds (in_force outer.now) (with_one h (named.attribute_at names.now attr)) self.new) }
+        ensures { OnOk result ((h : content.Held) → HoldsStart (in_force outer.now) h self.old
+            → HoldsStart (in_force outer.now) (with_one h (named.attribute_at names.now attr)) self.new) }
     {
         let Attr { label, value } = attr;
         let Label { number, prefix } = label;

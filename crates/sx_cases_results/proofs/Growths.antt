@@ -3,11 +3,11 @@ use Rattle.std.proofs.Common.{◌≡◌, ◌<◌, ℕ, ◌-◌, Bool, true, fals
 use Rattle.std.proofs.lemmas.Bool.{ltb-true, eqb-true}
 use Rattle.sx_tree.specs.declared.events.Event.{Event}
 use Rattle.sx_tree.specs.declared.events.Event.TheVariants as event
-use Rattle.sx_tree.specs.Events.{Element, MayFollow, is_text, tree_event, tree_events, ends_in_text}
+use Rattle.sx_tree.specs.Events.{Element, MayFollow, is_text, tree_event, tree_events, is_behind_text}
 use Rattle.sx_tree.specs.Tree.{TreeEvent, starts, ends, says, instructs, closes, Document, has_open, open_elements, first_node, push, push_end, tree_of}
 use Rattle.sx_tree.proofs.Open.{tree_of-snoc, open-push_node, none_open, open-none, has_open-is, open-push_end}
 use Rattle.sx_tree.proofs.Follow.{ends_in_text-snoc, tree_events-snoc}
-use Rattle.sx_cases_results.specs.Growing.{IsKnown, elements_after, goes_on_after}
+use Rattle.sx_cases_results.specs.Growing.{IsKnownGrowth, elements_after, goes_on_after}
 
 -- an element that ends was open
 count_end : (d : Document Element) (es : List Element) (e : Element) → open_elements d.content ≡ es ++ e ∷ []
@@ -47,15 +47,15 @@ behind : (events : List Event) (e : Event) → tree_of (tree_events (events ++ e
 behind events e = ap tree_of (tree_events-snoc events e) ∙ tree_of-snoc (tree_events events) (tree_event e)
 
 pub known_behind : (events : List Event) (elements : ℕ) (behind_text is_open : Bool) (e : Event)
-    → IsKnown events elements behind_text is_open → MayFollow (tree_events events) (tree_event e)
-    → IsKnown (events ++ e ∷ []) (elements_after elements e) (is_text (tree_event e)) (goes_on_after e)
+    → IsKnownGrowth events elements behind_text is_open → MayFollow (tree_events events) (tree_event e)
+    → IsKnownGrowth (events ++ e ∷ []) (elements_after elements e) (is_text (tree_event e)) (goes_on_after e)
 known_behind events elements behind_text is_open e known may =
     let d = tree_of (tree_events events) in
     let after = behind events e in
     let count = counted d e (ended (tree_events events) (tree_event e) may) in
     record {
       counted = ap (λ n. elements_after n e) known.counted ∙ sym count ∙ sym (ap (λ (t : Document Element). length (open_elements t.content)) after);
-      text = sym (ap ends_in_text (tree_events-snoc events e) ∙ ends_in_text-snoc (tree_events events) (tree_event e));
+      text = sym (ap is_behind_text (tree_events-snoc events e) ∙ ends_in_text-snoc (tree_events events) (tree_event e));
       unclosed = stays d e may.not_closed ∙ sym (ap (λ (t : Document Element). t.is_open) after);
     }
 
@@ -64,7 +64,7 @@ open_of true d n is count more = is
 open_of false d n is count more = absurd (omega (arith, count, more, ap length (none_open d.content is)))
 
 pub end_follows : (events : List Event) (elements : ℕ) (behind_text is_open : Bool) (e : Event)
-    → IsKnown events elements behind_text is_open → is_open ≡ true → e ≡ event.End → nat_lt 0 elements ≡ true → MayFollow (tree_events events) (tree_event e)
+    → IsKnownGrowth events elements behind_text is_open → is_open ≡ true → e ≡ event.End → nat_lt 0 elements ≡ true → MayFollow (tree_events events) (tree_event e)
 end_follows events elements behind_text is_open e known unclosed is more =
     let d = tree_of (tree_events events) in
     rw is record {
@@ -77,7 +77,7 @@ no_length [] is = refl
 no_length (e ∷ es) is = absurd (omega (arith, is))
 
 pub close_follows : (events : List Event) (elements : ℕ) (behind_text is_open : Bool) (e : Event)
-    → IsKnown events elements behind_text is_open → is_open ≡ true → e ≡ event.Close → nat_eq elements 0 ≡ true → MayFollow (tree_events events) (tree_event e)
+    → IsKnownGrowth events elements behind_text is_open → is_open ≡ true → e ≡ event.Close → nat_eq elements 0 ≡ true → MayFollow (tree_events events) (tree_event e)
 close_follows events elements behind_text is_open e known unclosed is none =
     let d = tree_of (tree_events events) in
     rw is record {

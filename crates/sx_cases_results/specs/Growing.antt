@@ -2,7 +2,7 @@
 use Rattle.std.specs.Prelude.{◌≡◌, ℕ, ◌+◌, ◌-◌, Bool, true, false, List, length}
 use Rattle.sx_tree.specs.declared.events.Event.{Event}
 use Rattle.sx_tree.specs.declared.events.Event.TheVariants as event
-use Rattle.sx_tree.specs.Events.{tree_events, ends_in_text}
+use Rattle.sx_tree.specs.Events.{tree_events, is_behind_text}
 use Rattle.sx_tree.specs.Tree.{open_elements, tree_of}
 
 -- how many elements are open behind an event
@@ -22,7 +22,7 @@ goes_on_after (event.Pi target content) = true
 goes_on_after event.Close = false
 
 -- So many elements are open behind the events, the last is a text or not, and the document is open or not.
-pub record IsKnown (events : List Event) (elements : ℕ) (behind_text is_open : Bool) : Type 0 where
+pub record IsKnownGrowth (events : List Event) (elements : ℕ) (behind_text is_open : Bool) : Type 0 where
   pub counted : elements ≡ length (open_elements (tree_of (tree_events events)).content)
-  pub text : behind_text ≡ ends_in_text (tree_events events)
+  pub text : behind_text ≡ is_behind_text (tree_events events)
   pub unclosed : is_open ≡ (tree_of (tree_events events)).is_open

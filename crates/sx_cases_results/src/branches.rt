@@ -1,7 +1,7 @@
 // Open trees and spines.
 ghost use Rattle.std.specs.Prelude.{◌≡◌, ◌<◌, ◌-◌, ◌^◌, true};
 ghost use Rattle.sx_tree.specs.Events.{MayFollow, is_text, tree_event, tree_events};
-ghost use Rattle.sx_cases_results.specs.Growing.{IsKnown, elements_after, goes_on_after};
+ghost use Rattle.sx_cases_results.specs.Growing.{IsKnownGrowth, elements_after, goes_on_after};
 
 use crate::notation::{append_word, chars_of, label_of};
 use sqlite_items::Items;
@@ -124,7 +124,7 @@ struct Growing {
     elements: u64,
     behind_text: bool,
     is_open: bool,
-    ghost known: { IsKnown tree.events elements behind_text is_open },
+    ghost known: { IsKnownGrowth tree.events elements behind_text is_open },
 }
 
 impl Growing {

@@ -6,7 +6,7 @@ use Rattle.sx_desk.proofs.Rows.{replaced_same, replaced_others}
 use Rattle.sx_desk.specs.Desk.{Reads, ToldRead, ShownRead}
 use Rattle.sx_desk.specs.Files.{content_in}
 use Rattle.sx_desk.specs.Pieces.{IsPiece}
-use Rattle.sx_desk.specs.Opened.{names_of, taken_of, marks_of}
+use Rattle.sx_desk.specs.Opened.{names_of_opened, taken_of, marks_of}
 use Rattle.sx_desk.specs.History.{tells, opened_names, asked_names, written_to, source_of, seen_by, padded, KeepsOutputs}
 use Rattle.sx_desk.specs.declared.desk.Out.{Out}
 use Rattle.sx_desk.specs.declared.desk.Out.TheVariants as out
@@ -18,7 +18,7 @@ pub record Marked (file : ℕ) (old new : CallHistory) : Type 0 where
   pub given : file < length (opened_names old)
   pub known : IsTrue (tells new) → IsTrue (tells old)
   pub opened : new.opened ≡ old.opened
-  pub names : names_of new.files.items ≡ names_of old.files.items
+  pub names : names_of_opened new.files.items ≡ names_of_opened old.files.items
   pub taken : taken_of new.files.items ≡ taken_of old.files.items
   pub marks : IsTrue (tells new) → marks_of new.files.items ≡ set (marks_of old.files.items) file
       (get_or (marks_of old.files.items) file [] ++ (get_or (taken_of old.files.items) file 0, length old.result.items) ∷ [])
@@ -30,7 +30,7 @@ pub record Taken (files : List MemFile) (file : ℕ) (buf : List ℕ) (n : ℕ) 
   pub piece : IsPiece (source_of files old file) (get_or (taken_of old.files.items) file 0) buf n
   pub opened : new.opened ≡ old.opened
   pub known : tells new ≡ tells old
-  pub names : names_of new.files.items ≡ names_of old.files.items
+  pub names : names_of_opened new.files.items ≡ names_of_opened old.files.items
   pub taken : taken_of new.files.items ≡ set (taken_of old.files.items) file (get_or (taken_of old.files.items) file 0 + n)
   pub marks : marks_of new.files.items ≡ marks_of old.files.items
   pub asked : asked_names new ≡ asked_names old
@@ -40,7 +40,7 @@ same_written : (h₀ h₁ : CallHistory) → KeepsOutputs h₀ h₁ → (o : Out
 same_written h₀ h₁ k out.Result = k.result
 same_written h₀ h₁ k out.Diagnostic = k.diagnostic
 
-same_names : (h₀ h₁ : CallHistory) → h₁.opened ≡ h₀.opened → names_of h₁.files.items ≡ names_of h₀.files.items → opened_names h₁ ≡ opened_names h₀
+same_names : (h₀ h₁ : CallHistory) → h₁.opened ≡ h₀.opened → names_of_opened h₁.files.items ≡ names_of_opened h₀.files.items → opened_names h₁ ≡ opened_names h₀
 same_names h₀ h₁ e f = ap₂ padded f e
 
 same_piece : (b b' : List ℕ) (k k' : ℕ) (buf : List ℕ) (n : ℕ) → b ≡ b' → k ≡ k' → IsPiece b k buf n → IsPiece b' k' buf n

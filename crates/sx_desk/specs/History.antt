@@ -2,7 +2,7 @@
 use Rattle.std.specs.Prelude.{◌≡◌, IsTrue, ℕ, Bool, ◌&&◌, nat_eq, if◌then◌else◌, List, [], ◌++◌, map, take, length, replicate, slice_index_or, slice_index, slice_get, string_bytes, Option, None, option_and_then, unwrap_or}
 use Rattle.sx_desk.specs.Desk.{Seen}
 use Rattle.sx_desk.specs.Files.{content_in, bytes_in}
-use Rattle.sx_desk.specs.Opened.{names_of, places_of, taken_of, marks_of}
+use Rattle.sx_desk.specs.Opened.{names_of_opened, places_of, taken_of, marks_of}
 use Rattle.sx_desk.specs.declared.files.MemFile.{MemFile}
 use Rattle.sx_desk.specs.declared.desk.Out.{Out}
 use Rattle.sx_desk.specs.declared.desk.Out.TheVariants as out
@@ -18,7 +18,7 @@ tells h = h.complete && nat_eq h.opened (length h.files.items)
 
 -- the names of the opened files: empty ones for those that were not recorded
 abbrev pub opened_names : CallHistory → List (List ℕ)
-opened_names h = padded (names_of h.files.items) h.opened
+opened_names h = padded (names_of_opened h.files.items) h.opened
 
 -- the names that were asked for
 abbrev pub asked_names : CallHistory → List (List ℕ)

@@ -3,8 +3,8 @@ use Rattle.std.specs.Prelude.{ℕ, List, map, string_bytes, Option}
 use Rattle.sx_desk.specs.declared.opened.OpenedFile.{OpenedFile}
 
 -- their names
-abbrev pub names_of : List OpenedFile → List (List ℕ)
-names_of = map (λ file. string_bytes file.name)
+abbrev pub names_of_opened : List OpenedFile → List (List ℕ)
+names_of_opened = map (λ file. string_bytes file.name)
 
 -- their places among the files of the desk, when they were opened
 abbrev pub places_of : List OpenedFile → List (Option ℕ)

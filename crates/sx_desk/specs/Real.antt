@@ -26,17 +26,17 @@ of_print text (Ok u) = Ok (length text)
 of_print text (Err e) = Err failed
 
 -- the longest front of the bytes that is text
-abbrev pub text_of : List ℕ → List ℕ
-text_of bytes = take (utf8_valid_len bytes) bytes
+abbrev pub utf8_front : List ℕ → List ℕ
+utf8_front bytes = take (utf8_valid_len bytes) bytes
 
 -- the file is the next one exactly where opening gave it
-abbrev pub Keeps : {File : Type 0} → Result File Error → List File → List File → Result ℕ Failed → Type 0
-Keeps (Ok file) old new result = (new ≡ old ++ file ∷ []) × (result ≡ Ok (length old))
-Keeps (Err e) old new result = (new ≡ old) × (result ≡ Err failed)
+abbrev pub KeepsFiles : {File : Type 0} → Result File Error → List File → List File → Result ℕ Failed → Type 0
+KeepsFiles (Ok file) old new result = (new ≡ old ++ file ∷ []) × (result ≡ Ok (length old))
+KeepsFiles (Err e) old new result = (new ≡ old) × (result ≡ Err failed)
 
 -- one open, where fewer than 66 files are open; none behind that, and a failure
 pub record OpensOne {File : Type 0} (Opens : Result File Error → Type 0) (old new : List File) (result : Result ℕ Failed) : Type 0 where
-  pub asked : length old < 66 → (answer : Result File Error) × Opens answer × Keeps answer old new result
+  pub asked : length old < 66 → (answer : Result File Error) × Opens answer × KeepsFiles answer old new result
   pub full : 66 ≤ length old → (new ≡ old) × (result ≡ Err failed)
 
 -- one read of the file, whose answer is the desk's
@@ -64,5 +64,5 @@ pub record PrintedOne (Prints : List ℕ → Result (Unit {0}) Error → Type 0)
 -- a piece is written to the result; of one for the diagnostic output the text is printed, and without text it fails
 pub record WritesOne (Writes : List ℕ → Result ℕ Error → Type 0) (Prints : List ℕ → Result (Unit {0}) Error → Type 0) (o : Out) (piece : List ℕ) (result : Result ℕ Failed) : Type 0 where
   pub wrote : o ≡ out.Result → WroteOne Writes piece result
-  pub printed : o ≡ out.Diagnostic → 0 < length (text_of piece) → PrintedOne Prints (text_of piece) result
-  pub no_text : o ≡ out.Diagnostic → length (text_of piece) ≡ 0 → result ≡ Err failed
+  pub printed : o ≡ out.Diagnostic → 0 < length (utf8_front piece) → PrintedOne Prints (utf8_front piece) result
+  pub no_text : o ≡ out.Diagnostic → length (utf8_front piece) ≡ 0 → result ≡ Err failed

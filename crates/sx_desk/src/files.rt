@@ -1,6 +1,6 @@
 // The files that a desk in memory can open.
 ghost use Rattle.std.specs.Prelude.{◌≡◌, [], unwrap_or, option_and_then};
-ghost use Rattle.sx_desk.specs.Files.{place_in, bytes_in};
+ghost use Rattle.sx_desk.specs.Files.{file_place, bytes_in};
 
 use sqlite_items::Items;
 
@@ -16,7 +16,7 @@ pub type MemFiles = Items<MemFile>;
 
 /// The place of the first file of a name.
 pub fn place_of(files: &[MemFile], name: &str) -> Option<usize>
-    ensures { result ≡ place_in files.now name.now }
+    ensures { result ≡ file_place files.now name.now }
 {
     files.iter().position(|file| file.name.as_str() == name)
 }

@@ -31,7 +31,7 @@ impl CallHistory {
     ghost use Rattle.std.specs.Prelude.{◌≢◌, [], ◌∷◌, ◌++◌, IsTrue, IfOk, IfSome, length};
     ghost use Rattle.std.specs.Prelude.{take, slice_index, slice_index_or, slice_set, is_some};
     ghost use Rattle.sx_desk.specs.Pieces.{IsPiece, least_of};
-    ghost use Rattle.sx_desk.specs.Opened.{names_of, places_of, taken_of, marks_of};
+    ghost use Rattle.sx_desk.specs.Opened.{names_of_opened, places_of, taken_of, marks_of};
     ghost use Rattle.sx_desk.specs.History.{tells, opened_names, asked_names, written_to, source_of};
     ghost use Rattle.sx_desk.specs.History.{KeepsFiles, KeepsOutputs};
 
@@ -106,7 +106,8 @@ impl CallHistory {
         ensures opened { self.new.opened ≡ self.old.opened + 1 }
         ensures known { IsTrue (tells self.new) → IsTrue (tells self.old) }
         ensures names { IsTrue (tells self.new)
-            → names_of self.new.files.items ≡ names_of self.old.files.items ++ name.now ∷ [] }
+            → names_of_opened self.new.files.items
+            ≡ names_of_opened self.old.files.items ++ name.now ∷ [] }
         ensures taken { IsTrue (tells self.new)
             → taken_of self.new.files.items ≡ taken_of self.old.files.items ++ 0 ∷ [] }
         ensures marks { IsTrue (tells self.new)
@@ -128,7 +129,7 @@ impl CallHistory {
         requires { file < self.old.opened }
         ensures opened { self.new.opened ≡ self.old.opened }
         ensures known { IsTrue (tells self.new) → IsTrue (tells self.old) }
-        ensures names { names_of self.new.files.items ≡ names_of self.old.files.items }
+        ensures names { names_of_opened self.new.files.items ≡ names_of_opened self.old.files.items }
         ensures places { places_of self.new.files.items ≡ places_of self.old.files.items }
         ensures taken { taken_of self.new.files.items ≡ taken_of self.old.files.items }
         ensures marks { IsTrue (tells self.new)
@@ -154,7 +155,7 @@ impl CallHistory {
             (length (source_of files.now self.old file) - slice_index (taken_of self.old.files.items) file) }
         ensures opened { self.new.opened ≡ self.old.opened }
         ensures known { tells self.new ≡ tells self.old }
-        ensures names { names_of self.new.files.items ≡ names_of self.old.files.items }
+        ensures names { names_of_opened self.new.files.items ≡ names_of_opened self.old.files.items }
         ensures places { places_of self.new.files.items ≡ places_of self.old.files.items }
         ensures taken { taken_of self.new.files.items
             ≡ slice_set (taken_of self.old.files.items) file

@@ -2,7 +2,7 @@
 ghost use Rattle.std.specs.Prelude.{◌≡◌, ◌+◌, ◌^◌, ◌<◌, ◌≤◌, [], ◌∷◌, ◌++◌};
 ghost use Rattle.std.specs.Prelude.{IsOk, OnOk, None, length, string_bytes, slice_index, slice_index_or};
 ghost use Rattle.std.specs.Prelude.{slice_set, slice_get, vec_len, vec_capacity};
-ghost use Rattle.sx_desk.specs.Opened.{names_of, places_of, taken_of, marks_of};
+ghost use Rattle.sx_desk.specs.Opened.{names_of_opened, places_of, taken_of, marks_of};
 
 use sqlite_items::Items;
 use std::alloc::{AllocError, Global};
@@ -28,7 +28,8 @@ pub fn add_file(
     name: &str,
     place: Option<usize>,
 ) -> Result<(), AllocError>
-    ensures names { OnOk result (names_of files.new.items ≡ names_of files.old.items ++ name.now ∷ []) }
+    ensures names { OnOk result (names_of_opened files.new.items
+        ≡ names_of_opened files.old.items ++ name.now ∷ []) }
     ensures taken { OnOk result (taken_of files.new.items ≡ taken_of files.old.items ++ 0 ∷ []) }
     ensures marks { OnOk result (marks_of files.new.items ≡ marks_of files.old.items ++ [] ∷ []) }
     ensures places { vec_len files.old < vec_capacity files.old
@@ -69,7 +70,7 @@ fn push_file(
 /// The name of a file.
 pub fn name_at(files: &[OpenedFile], at: usize) -> &str
     requires { at < length files.now }
-    ensures { slice_get (names_of files.now) at ≡ Some result.now }
+    ensures { slice_get (names_of_opened files.now) at ≡ Some result.now }
 {
     files[at].name.as_str()
 }
@@ -103,7 +104,7 @@ pub fn taken_at(files: &[OpenedFile], at: usize) -> usize
 /// Adds a mark to a file.
 pub fn add_mark(files: &mut Vec<OpenedFile>, at: usize, written: usize) -> Result<(), AllocError>
     requires { at < vec_len files.old }
-    ensures names { names_of files.new.items ≡ names_of files.old.items }
+    ensures names { names_of_opened files.new.items ≡ names_of_opened files.old.items }
     ensures places { places_of files.new.items ≡ places_of files.old.items }
     ensures taken { taken_of files.new.items ≡ taken_of files.old.items }
     ensures marks { OnOk result (marks_of files.new.items ≡ slice_set (marks_of files.old.items) at
@@ -119,7 +120,7 @@ pub fn add_mark(files: &mut Vec<OpenedFile>, at: usize, written: usize) -> Resul
 /// Takes some bytes of a file.
 pub fn take(files: &mut Vec<OpenedFile>, at: usize, count: usize)
     requires { slice_index (taken_of files.old.items) at + count < 2 ^ 64 }
-    ensures names { names_of files.new.items ≡ names_of files.old.items }
+    ensures names { names_of_opened files.new.items ≡ names_of_opened files.old.items }
     ensures places { places_of files.new.items ≡ places_of files.old.items }
     ensures marks { marks_of files.new.items ≡ marks_of files.old.items }
     ensures taken { taken_of files.new.items

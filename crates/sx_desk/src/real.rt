@@ -2,7 +2,7 @@
 ghost use Rattle.std.specs.Prelude.{◌≡◌, ◌<◌, ◌≤◌, ◌-◌, ◌^◌, [], length, vec_len};
 ghost use Rattle.std.specs.Prelude.{vec_capacity, IfOk};
 ghost use Rattle.sx_desk.specs.Desk.{untold, Opens, Reads, Writes};
-ghost use Rattle.sx_desk.specs.Real.{OpensOne, ReadsOne, WritesOne, text_of};
+ghost use Rattle.sx_desk.specs.Real.{OpensOne, ReadsOne, WritesOne, utf8_front};
 
 use crate::system::System;
 use crate::{Desk, Failed, Out};
@@ -119,7 +119,7 @@ impl<'a, R: System> Desk for RealDesk<'a, R> {
 
 // The bytes up to the first that is not text.
 fn text_front(bytes: &[u8]) -> &str
-    ensures { result.now ≡ text_of bytes.now }
+    ensures { result.now ≡ utf8_front bytes.now }
 {
     match str::from_utf8(bytes) {
         Ok(text) => text,

@@ -5,11 +5,11 @@ use Rattle.sx_esis.specs.declared.faults.LineFault.{LineFault}
 use Rattle.sx_esis.specs.declared.reader.LineView.{LineView}
 use Rattle.sx_esis.specs.Lines.{Line}
 use Rattle.sx_esis.specs.LineReader.{LinesStand, line_shown, unread}
-use Rattle.sx_esis.specs.Gives.{Advances, Follows, IsLineGiven, view_line}
+use Rattle.sx_esis.specs.Gives.{AdvancesLine, Follows, IsLineGiven, view_line}
 
 -- What the call that goes on ensures.
 pub record Went (old new : LineReader) (r : Option (Result Unit LineFault)) : Type 0 where
-  pub gives : (limit : ℕ) (bytes : List ℕ) (ended : Bool) (given : ℕ) → LinesStand old limit bytes ended given → Advances limit bytes ended given new r
+  pub gives : (limit : ℕ) (bytes : List ℕ) (ended : Bool) (given : ℕ) → LinesStand old limit bytes ended given → AdvancesLine limit bytes ended given new r
   pub progress : IsLineGiven r → unread new < unread old
 
 pub follows_line : (old new : LineReader) (r : Option (Result Unit LineFault)) (view : LineView) → r ≡ Some (Ok tt) → Went old new r → view_line view ≡ line_shown new → Follows old (Some (Ok view)) new

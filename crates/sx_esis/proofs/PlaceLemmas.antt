@@ -7,7 +7,7 @@ use Rattle.std.proofs.lemmas.List.{get_or_default}
 use Rattle.std.proofs.lemmas.List.Elements.{All-from_get_or}
 use Rattle.std.proofs.lemmas.List.Sums.{list_all-from_AllPass}
 use Rattle.std.specs.Str.{IsUtf8, is_utf8}
-use Rattle.sx_esis.specs.Lines.{is_text}
+use Rattle.sx_esis.specs.Lines.{is_text_line}
 use Rattle.std.proofs.lemmas.Bool.Decides.{nat_tests}
 use Rattle.std.proofs.lemmas.List.Sums.{position_or_len_is, prefix_len-le-length}
 use Rattle.std.specs.List.{All, AllPass, list_all, position, position_or_len}
@@ -54,25 +54,25 @@ true_of true e = refl
 true_of false e = e
 
 -- a line with a zero is no text, and one of UTF-8 without it is
-pub zero_found : (s : List ℕ) (n : ℕ) → n ≡ position_or_len (λ b. eqb b 0) s → n < length s → is_text s ≡ false
+pub zero_found : (s : List ℕ) (n : ℕ) → n ≡ position_or_len (λ b. eqb b 0) s → n < length s → is_text_line s ≡ false
 zero_found s n is within =
     not_both (is_utf8 s) (list_all (λ b. not (eqb b 0)) s)
     (false_of (list_all (λ b. not (eqb b 0)) s) (sym (lt-ltb n (length s) within) ∙ ap (λ (m : ℕ). ltb m (length s)) is ∙ none_of 0 s))
 
-pub zero_nowhere : (s : List ℕ) (n : ℕ) → n ≡ position_or_len (λ b. eqb b 0) s → IsUtf8 s → length s ≤ n → is_text s ≡ true
+pub zero_nowhere : (s : List ℕ) (n : ℕ) → n ≡ position_or_len (λ b. eqb b 0) s → IsUtf8 s → length s ≤ n → is_text_line s ≡ true
 zero_nowhere s n is text past =
     let none : ltb n (length s) ≡ false = grind (arith, nat_tests) in
     and_from (is_utf8 s) (list_all (λ b. not (eqb b 0)) s) (is_utf8-from_IsUtf8 s text)
     (true_of (list_all (λ b. not (eqb b 0)) s) (sym none ∙ ap (λ (m : ℕ). ltb m (length s)) is ∙ none_of 0 s))
 
-pub text_is_utf8 : (s : List ℕ) → is_text s ≡ true → IsUtf8 s
+pub text_is_utf8 : (s : List ℕ) → is_text_line s ≡ true → IsUtf8 s
 text_is_utf8 s is = IsUtf8-from_is_utf8 s (and_parts (is_utf8 s) (list_all (λ b. not (eqb b 0)) s) is).0
 
 not_zero : (b : ℕ) → 0 < b → not (eqb b 0) ≡ true
 not_zero b some = grind (arith, nat_tests)
 
 -- bytes of which none is a zero, and all are of ASCII, are text
-pub plain_text : (s : List ℕ) (least most : ℕ) → ((k : ℕ) → k < length s → (least ≤ get_or s k 0) × (get_or s k 0 ≤ most)) → 0 < least → most < 128 → is_text s ≡ true
+pub plain_text : (s : List ℕ) (least most : ℕ) → ((k : ℕ) → k < length s → (least ≤ get_or s k 0) × (get_or s k 0 ≤ most)) → 0 < least → most < 128 → is_text_line s ≡ true
 plain_text s least most between some few =
     let ascii : All (λ b. b < 128) s = All-from_get_or (λ b. b < 128) s 0 (λ k within. let here = between k within in omega (arith, here.1, few)) in
     let none : AllPass (λ b. not (eqb b 0)) s =

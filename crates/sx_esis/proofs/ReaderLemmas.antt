@@ -12,30 +12,30 @@ use Rattle.sx_esis.specs.declared.line_buffer.LineBuffer.{LineBuffer}
 use Rattle.sx_esis.specs.Lines.{Cut, cut, Line, Fault, Reading, nothing_more, fault_here, one_later, in_front, line_within, reading_of, last_line, rest_reading, lines_of}
 use Rattle.sx_esis.specs.Inside.{IsFirstLine, is_inside}
 use Rattle.sx_esis.specs.Buffered.{taken_line, waiting}
-use Rattle.sx_esis.specs.LineReader.{LinesStand, MayFollow, behind, fault_or, line_shown, to_come}
-use Rattle.sx_esis.specs.Gives.{Advances, Counts, Fails, Judges}
+use Rattle.sx_esis.specs.LineReader.{LinesStand, MayComeBehind, behind_lines, fault_or, line_shown, to_come}
+use Rattle.sx_esis.specs.Gives.{AdvancesLine, Counts, Fails, Judges}
 use Rattle.sx_esis.proofs.Cuts.{cut-line, cut-begun, cut-inside}
 use Rattle.sx_esis.proofs.Grow.{long_behind}
 
 -- lines in front of a reading
-behind-lines : (lines : List Line) (r : Reading) → (behind lines r).lines ≡ lines ++ r.lines
+behind-lines : (lines : List Line) (r : Reading) → (behind_lines lines r).lines ≡ lines ++ r.lines
 behind-lines [] r = refl
 behind-lines (line ∷ lines) r = ap (λ (ls : List Line). line ∷ ls) (behind-lines lines r)
 
--- the fault behind so many lines
+-- the fault behind_lines so many lines
 abbrev fault_behind : LineWhich → ℕ → Fault
 fault_behind w n = record { which = w; line = n + 1 }
 
-behind-fault : (w : LineWhich) (lines : List Line) → (behind lines (fault_here w)).fault ≡ Some (fault_behind w (length lines))
+behind-fault : (w : LineWhich) (lines : List Line) → (behind_lines lines (fault_here w)).fault ≡ Some (fault_behind w (length lines))
 behind-fault w [] = refl
 behind-fault w (line ∷ lines) =
     ap (option_map one_later) (behind-fault w lines) ∙ ap (λ (n : ℕ). Some (record { which = w; line = n })) (omega arith)
 
-behind-sound : (lines : List Line) → (behind lines nothing_more).fault ≡ None
+behind-sound : (lines : List Line) → (behind_lines lines nothing_more).fault ≡ None
 behind-sound [] = refl
 behind-sound (line ∷ lines) = ap (option_map one_later) (behind-sound lines)
 
-behind-snoc : (lines : List Line) (line : Line) (r : Reading) → behind lines (in_front (Ok line) r) ≡ behind (lines ++ line ∷ []) r
+behind-snoc : (lines : List Line) (line : Line) (r : Reading) → behind_lines lines (in_front (Ok line) r) ≡ behind_lines (lines ++ line ∷ []) r
 behind-snoc [] line r = refl
 behind-snoc (l ∷ lines) line r = ap (in_front (Ok l)) (behind-snoc lines line r)
 
@@ -44,11 +44,11 @@ line_at [] line more = refl
 line_at (l ∷ lines) line more = line_at lines line more
 
 -- nothing may follow at once
-may_now : (ended : Bool) → MayFollow ended [] ended
+may_now : (ended : Bool) → MayComeBehind ended [] ended
 may_now false = tt
 may_now true = (refl, refl)
 
--- a line and its newline, whatever comes behind them
+-- a line and its newline, whatever comes behind_lines them
 read_line : (limit : ℕ) (w line rest more : List ℕ) (at_end : Bool) → list_all is_inside line ≡ true → w ≡ line ++ 10 ∷ rest →
     lines_of limit (w ++ more) at_end ≡ in_front (line_within limit line) (lines_of limit (rest ++ more) at_end)
 read_line limit w line rest more at_end inside split =
@@ -80,20 +80,20 @@ nothing_read limit w false why = refl
 
 module _ (limit : ℕ) (bytes : List ℕ) (ended : Bool) (given : ℕ) (old : LineReader) (s : LinesStand old limit bytes ended given) where
   -- what is read now
-  now_read : lines_of limit bytes ended ≡ behind s.passed (to_come old [] ended)
+  now_read : lines_of limit bytes ended ≡ behind_lines s.passed (to_come old [] ended)
   now_read = ap (λ (b : List ℕ). lines_of limit b ended) (sym (append-nil bytes)) ∙ s.reading [] ended (may_now ended)
 
   -- what comes where no fault was met
-  sound_reading : old.fault ≡ None → (more : List ℕ) (at_end : Bool) → MayFollow ended more at_end → lines_of limit (bytes ++ more) at_end ≡ behind s.passed (lines_of old.limit (waiting old.buffer ++ more) at_end)
-  sound_reading sound more at_end may = s.reading more at_end may ∙ ap (λ (o : Option LineWhich). behind s.passed (fault_or o (lines_of old.limit (waiting old.buffer ++ more) at_end))) sound
+  sound_reading : old.fault ≡ None → (more : List ℕ) (at_end : Bool) → MayComeBehind ended more at_end → lines_of limit (bytes ++ more) at_end ≡ behind_lines s.passed (lines_of old.limit (waiting old.buffer ++ more) at_end)
+  sound_reading sound more at_end may = s.reading more at_end may ∙ ap (λ (o : Option LineWhich). behind_lines s.passed (fault_or o (lines_of old.limit (waiting old.buffer ++ more) at_end))) sound
 
   -- a fault that every going on has
   fails : (b : LineBuffer) (new : LineReader) (f : LineFault) → length (waiting b) ≤ length (waiting old.buffer) → Fails (record old { buffer = b }) new f →
-      ((more : List ℕ) (at_end : Bool) → MayFollow ended more at_end → lines_of limit (bytes ++ more) at_end ≡ behind s.passed (fault_here f.which)) →
-      Advances limit bytes ended given new (Some (Err f))
+      ((more : List ℕ) (at_end : Bool) → MayComeBehind ended more at_end → lines_of limit (bytes ++ more) at_end ≡ behind_lines s.passed (fault_here f.which)) →
+      AdvancesLine limit bytes ended given new (Some (Err f))
   fails b new f shorter failed met =
       let w = f.which in
-      let here : lines_of limit bytes ended ≡ behind s.passed (fault_here w) = ap (λ (b : List ℕ). lines_of limit b ended) (sym (append-nil bytes)) ∙ met [] ended (may_now ended) in
+      let here : lines_of limit bytes ended ≡ behind_lines s.passed (fault_here w) = ap (λ (b : List ℕ). lines_of limit b ended) (sym (append-nil bytes)) ∙ met [] ended (may_now ended) in
       let room : given + length (waiting new.buffer) ≤ length bytes = let r : given + length (waiting old.buffer) ≤ length bytes = s.room in omega (arith, ap length failed.keeps.rest) in (
         record {
           all = sym (ap (λ (r : Reading). length r.lines) here ∙ ap length (behind-lines s.passed (fault_here w)) ∙ ap length (append-nil s.passed) ∙ s.count);
@@ -110,23 +110,23 @@ module _ (limit : ℕ) (bytes : List ℕ) (ended : Bool) (given : ℕ) (old : Li
           room = room;
           passed = s.passed;
           count = s.count;
-          reading = λ more at_end may. met more at_end may ∙ sym (ap (λ (o : Option LineWhich). behind s.passed (fault_or o (lines_of new.limit (waiting new.buffer ++ more) at_end))) failed.fault);
+          reading = λ more at_end may. met more at_end may ∙ sym (ap (λ (o : Option LineWhich). behind_lines s.passed (fault_or o (lines_of new.limit (waiting new.buffer ++ more) at_end))) failed.fault);
         },
       )
 
   -- the line that was taken counts: it comes next in what is read
   counts : (b : LineBuffer) (new : LineReader) → Counts (record old { buffer = b }) new → old.fault ≡ None → length (waiting b) < length (waiting old.buffer) →
-      ((more : List ℕ) (at_end : Bool) → MayFollow ended more at_end →
+      ((more : List ℕ) (at_end : Bool) → MayComeBehind ended more at_end →
       lines_of old.limit (waiting old.buffer ++ more) at_end ≡ in_front (line_within old.limit (taken_line b)) (lines_of old.limit (waiting b ++ more) at_end)) →
-      Advances limit bytes ended given new (Some (Ok tt))
+      AdvancesLine limit bytes ended given new (Some (Ok tt))
   counts b new counted sound shorter step =
       let l = line_shown new in
-      let next : (more : List ℕ) (at_end : Bool) → MayFollow ended more at_end → lines_of limit (bytes ++ more) at_end ≡ behind s.passed (in_front (Ok l) (lines_of old.limit (waiting b ++ more) at_end)) =
+      let next : (more : List ℕ) (at_end : Bool) → MayComeBehind ended more at_end → lines_of limit (bytes ++ more) at_end ≡ behind_lines s.passed (in_front (Ok l) (lines_of old.limit (waiting b ++ more) at_end)) =
       λ more at_end may.
       sound_reading sound more at_end may
-      ∙ ap (behind s.passed) (step more at_end may ∙ ap (λ (o : Result Line LineWhich). in_front o (lines_of old.limit (waiting b ++ more) at_end)) counted.line) in
+      ∙ ap (behind_lines s.passed) (step more at_end may ∙ ap (λ (o : Result Line LineWhich). in_front o (lines_of old.limit (waiting b ++ more) at_end)) counted.line) in
       let last : Reading = lines_of old.limit (waiting b ++ []) ended in
-      let here : lines_of limit bytes ended ≡ behind s.passed (in_front (Ok l) last) = ap (λ (b : List ℕ). lines_of limit b ended) (sym (append-nil bytes)) ∙ next [] ended (may_now ended) in
+      let here : lines_of limit bytes ended ≡ behind_lines s.passed (in_front (Ok l) last) = ap (λ (b : List ℕ). lines_of limit b ended) (sym (append-nil bytes)) ∙ next [] ended (may_now ended) in
       let room : given + 1 + length (waiting new.buffer) ≤ length bytes = let r : given + length (waiting old.buffer) ≤ length bytes = s.room in omega (arith, ap length counted.keeps.rest) in (
         ap (λ (r : Reading). slice_get r.lines given) here
             ∙ ap (λ (ls : List Line). slice_get ls given) (behind-lines s.passed (in_front (Ok l) last))
@@ -142,32 +142,32 @@ module _ (limit : ℕ) (bytes : List ℕ) (ended : Bool) (given : ℕ) (old : Li
           reading = λ more at_end may.
               next more at_end may
               ∙ behind-snoc s.passed l (lines_of old.limit (waiting b ++ more) at_end)
-              ∙ sym (ap (λ (o : Option LineWhich). behind (s.passed ++ l ∷ []) (fault_or o (lines_of new.limit (waiting new.buffer ++ more) at_end))) (counted.fault ∙ sound)
-              ∙ ap (λ (n : ℕ). behind (s.passed ++ l ∷ []) (lines_of n (waiting new.buffer ++ more) at_end)) counted.keeps.limit
-              ∙ ap (λ (r : List ℕ). behind (s.passed ++ l ∷ []) (lines_of old.limit (r ++ more) at_end)) counted.keeps.rest);
+              ∙ sym (ap (λ (o : Option LineWhich). behind_lines (s.passed ++ l ∷ []) (fault_or o (lines_of new.limit (waiting new.buffer ++ more) at_end))) (counted.fault ∙ sound)
+              ∙ ap (λ (n : ℕ). behind_lines (s.passed ++ l ∷ []) (lines_of n (waiting new.buffer ++ more) at_end)) counted.keeps.limit
+              ∙ ap (λ (r : List ℕ). behind_lines (s.passed ++ l ∷ []) (lines_of old.limit (r ++ more) at_end)) counted.keeps.rest);
         },
       )
 
   -- the line that was taken counts or is at fault
   pub judged : (b : LineBuffer) (new : LineReader) (result : Result Unit LineFault) → Judges (record old { buffer = b }) new result → old.fault ≡ None →
       length (waiting b) < length (waiting old.buffer) →
-      ((more : List ℕ) (at_end : Bool) → MayFollow ended more at_end →
+      ((more : List ℕ) (at_end : Bool) → MayComeBehind ended more at_end →
       lines_of old.limit (waiting old.buffer ++ more) at_end ≡ in_front (line_within old.limit (taken_line b)) (lines_of old.limit (waiting b ++ more) at_end)) →
-      Advances limit bytes ended given new (Some result)
+      AdvancesLine limit bytes ended given new (Some result)
   judged b new (Ok done) counted sound shorter step = counts b new counted sound shorter step
   judged b new (Err f) failed sound shorter step =
       fails b new f (omega arith) failed.0
-      (λ more at_end may. sound_reading sound more at_end may ∙ ap (behind s.passed) (step more at_end may ∙ ap (λ (o : Result Line LineWhich). in_front o (lines_of old.limit (waiting b ++ more) at_end)) failed.1))
+      (λ more at_end may. sound_reading sound more at_end may ∙ ap (behind_lines s.passed) (step more at_end may ∙ ap (λ (o : Result Line LineWhich). in_front o (lines_of old.limit (waiting b ++ more) at_end)) failed.1))
 
   -- the fault that was met is met again
-  pub fault_again : (new : LineReader) (f : LineFault) → old.fault ≡ Some f.which → Fails old new f → Advances limit bytes ended given new (Some (Err f))
+  pub fault_again : (new : LineReader) (f : LineFault) → old.fault ≡ Some f.which → Fails old new f → AdvancesLine limit bytes ended given new (Some (Err f))
   fault_again new f faulty failed =
       fails old.buffer new f (omega arith) failed
-      (λ more at_end may. s.reading more at_end may ∙ ap (λ (o : Option LineWhich). behind s.passed (fault_or o (lines_of old.limit (waiting old.buffer ++ more) at_end))) faulty)
+      (λ more at_end may. s.reading more at_end may ∙ ap (λ (o : Option LineWhich). behind_lines s.passed (fault_or o (lines_of old.limit (waiting old.buffer ++ more) at_end))) faulty)
 
   -- a line whose newline has come
   pub line_judged : (b c : LineBuffer) (n : ℕ) (new : LineReader) (result : Result Unit LineFault) → old.fault ≡ None → waiting b ≡ waiting old.buffer → IsFirstLine (waiting old.buffer) n →
-      taken_line c ≡ take n (waiting b) → waiting c ≡ drop (n + 1) (waiting b) → Judges (record old { buffer = c }) new result → Advances limit bytes ended given new (Some result)
+      taken_line c ≡ take n (waiting b) → waiting c ≡ drop (n + 1) (waiting b) → Judges (record old { buffer = c }) new result → AdvancesLine limit bytes ended given new (Some result)
   line_judged b c n new result sound same first taken left judges =
       let w = waiting old.buffer in
       let line_is : taken_line c ≡ first.line = taken ∙ ap (take n) (same ∙ first.split) ∙ take_at first.line (10 ∷ first.rest) n first.count in
@@ -183,22 +183,22 @@ module _ (limit : ℕ) (bytes : List ℕ) (ended : Bool) (given : ℕ) (old : Li
 
   -- a line that is too long before its newline has come
   pub long_fails : (b : LineBuffer) (new : LineReader) (f : LineFault) → old.fault ≡ None → waiting b ≡ waiting old.buffer → list_all is_inside (waiting old.buffer) ≡ true →
-      old.limit < length (waiting b) → Fails (record old { buffer = b }) new f → f.which ≡ which.Line → Advances limit bytes ended given new (Some (Err f))
+      old.limit < length (waiting b) → Fails (record old { buffer = b }) new f → f.which ≡ which.Line → AdvancesLine limit bytes ended given new (Some (Err f))
   long_fails b new f sound same inside long failed kind =
       fails b new f (omega (arith, ap length same)) failed
-      (λ more at_end may. sound_reading sound more at_end may ∙ ap (behind s.passed) (read_long old.limit (waiting old.buffer) more at_end inside (omega (arith, ap length same)) ∙ ap fault_here (sym kind)))
+      (λ more at_end may. sound_reading sound more at_end may ∙ ap (behind_lines s.passed) (read_long old.limit (waiting old.buffer) more at_end inside (omega (arith, ap length same)) ∙ ap fault_here (sym kind)))
 
   -- nothing more has come
   pub gave_all : (b : LineBuffer) → old.fault ≡ None → waiting b ≡ waiting old.buffer → list_all is_inside (waiting old.buffer) ≡ true →
-      length (waiting b) ≤ old.limit → (length (waiting b) ≡ 0) ⊎ (old.ended ≡ false) → Advances limit bytes ended given (record old { buffer = b }) None
+      length (waiting b) ≤ old.limit → (length (waiting b) ≡ 0) ⊎ (old.ended ≡ false) → AdvancesLine limit bytes ended given (record old { buffer = b }) None
   gave_all b sound same inside short why =
       let w = waiting old.buffer in
       let nothing : lines_of old.limit (w ++ []) ended ≡ nothing_more =
       ap (λ (r : List ℕ). lines_of old.limit r ended) (append-nil w)
       ∙ read_rest old.limit w ended inside (omega (arith, ap length same))
       ∙ nothing_read old.limit w ended (reason why) in
-      let here : lines_of limit bytes ended ≡ behind s.passed nothing_more =
-      ap (λ (r : List ℕ). lines_of limit r ended) (sym (append-nil bytes)) ∙ sound_reading sound [] ended (may_now ended) ∙ ap (behind s.passed) nothing in (
+      let here : lines_of limit bytes ended ≡ behind_lines s.passed nothing_more =
+      ap (λ (r : List ℕ). lines_of limit r ended) (sym (append-nil bytes)) ∙ sound_reading sound [] ended (may_now ended) ∙ ap (behind_lines s.passed) nothing in (
         record {
           all = sym (ap (λ (r : Reading). length r.lines) here ∙ ap length (behind-lines s.passed nothing_more) ∙ ap length (append-nil s.passed) ∙ s.count);
           sound = ap (λ (r : Reading). r.fault) here ∙ behind-sound s.passed;
@@ -210,7 +210,7 @@ module _ (limit : ℕ) (bytes : List ℕ) (ended : Bool) (given : ℕ) (old : Li
           room = let r : given + length (waiting old.buffer) ≤ length bytes = s.room in omega (arith, ap length same);
           passed = s.passed;
           count = s.count;
-          reading = λ more at_end may. s.reading more at_end may ∙ ap (λ (r : List ℕ). behind s.passed (fault_or old.fault (lines_of old.limit (r ++ more) at_end))) (sym same);
+          reading = λ more at_end may. s.reading more at_end may ∙ ap (λ (r : List ℕ). behind_lines s.passed (fault_or old.fault (lines_of old.limit (r ++ more) at_end))) (sym same);
         },
       )
     where
@@ -221,11 +221,11 @@ module _ (limit : ℕ) (bytes : List ℕ) (ended : Bool) (given : ℕ) (old : Li
   -- the last line, which no newline ends
   pub rest_judged : (b c : LineBuffer) (new : LineReader) (result : Result Unit LineFault) → old.fault ≡ None → waiting b ≡ waiting old.buffer → list_all is_inside (waiting old.buffer) ≡ true →
       length (waiting b) ≤ old.limit → 0 < length (waiting b) → old.ended ≡ true → taken_line c ≡ waiting b → waiting c ≡ [] → Judges (record old { buffer = c }) new result →
-      Advances limit bytes ended given new (Some result)
+      AdvancesLine limit bytes ended given new (Some result)
   rest_judged b c new result sound same inside short some over taken none judges =
       judged c new result judges sound (omega (arith, ap length same, ap length none)) (at_the_end ended (sym s.told ∙ over))
     where
-      at_the_end : (told : Bool) → told ≡ true → (more : List ℕ) (at_end : Bool) → MayFollow told more at_end →
+      at_the_end : (told : Bool) → told ≡ true → (more : List ℕ) (at_end : Bool) → MayComeBehind told more at_end →
           lines_of old.limit (waiting old.buffer ++ more) at_end ≡ in_front (line_within old.limit (taken_line c)) (lines_of old.limit (waiting c ++ more) at_end)
       at_the_end false e more at_end may = cc
       at_the_end true e more at_end may =

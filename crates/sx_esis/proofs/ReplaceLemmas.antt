@@ -7,7 +7,7 @@ use Rattle.std.specs.Char.{encode_utf8, len_utf8}
 use Rattle.std.specs.List.{copy_within, position_or_len}
 use Rattle.sx_chars.proofs.Places.{take_one_more, drop_one_more}
 use Rattle.sx_esis.specs.Escapes.{put_before, unescape, unescape_from}
-use Rattle.sx_esis.specs.Replacing.{IsCut, ReadsCharacter, comes_to}
+use Rattle.sx_esis.specs.Replacing.{IsPartlyReplaced, ReadsCharacter, comes_to}
 use Rattle.sx_esis.specs.declared.faults.LineWhich.{LineWhich}
 
 abbrev Answer : Type 0
@@ -45,7 +45,7 @@ plain (b ∷ bs) = plain_at (is_mark b) b bs refl (plain bs)
 pub first_mark : (s : List ℕ) (n : ℕ) → n ≡ position_or_len is_mark s → n < length s → get_or s n 0 ≡ 92
 first_mark s n is within = eqb-true (get_or s n 0) 92 (ap (λ (m : ℕ). is_mark (get_or s m 0)) is ∙ passes_at_first is_mark s 0 (omega arith))
 
-pub first_cut : (s : List ℕ) (n : ℕ) → n ≡ position_or_len is_mark s → IsCut s n n
+pub first_cut : (s : List ℕ) (n : ℕ) → n ≡ position_or_len is_mark s → IsPartlyReplaced s n n
 first_cut s n is = record {
   order = omega arith;
   within = let most : position_or_len is_mark s ≤ length s = prefix_len-le-length (λ b. not (is_mark b)) s in omega arith;
@@ -108,7 +108,7 @@ module _ (old : List ℕ) (written read count : ℕ) (order : written ≤ read) 
         ∙ sym (get_or-drop read old count 0)
         ∙ first_mark (drop read old) count is (omega (arith, length_is, length-drop read old))
 
-    pub move_cut : IsCut new (written + count) (read + count)
+    pub move_cut : IsPartlyReplaced new (written + count) (read + count)
     move_cut = record {
       order = omega arith;
       within = let within_it = move_fits in omega (arith, length_is);
@@ -123,7 +123,7 @@ module _ (old : List ℕ) (written read count : ℕ) (order : written ≤ read) 
         ∙ ap (λ (s : List ℕ). put_before (take (written + count) new) (unescape s)) (drop-drop count read old ∙ sym rest_is)
 
 -- a character that is written in place of an escape
-module _ (old new : List ℕ) (written read c count : ℕ) (cut : IsCut old written read) (more : read < length old) (reads : ReadsCharacter (drop (read + 1) old) c count)
+module _ (old new : List ℕ) (written read c count : ℕ) (cut : IsPartlyReplaced old written read) (more : read < length old) (reads : ReadsCharacter (drop (read + 1) old) c count)
     (front : take (written + len_utf8 c) new ≡ take written old ++ encode_utf8 c) (rest : drop (written + len_utf8 c) new ≡ drop (written + len_utf8 c) old) where
   at_mark : unescape (drop read old) ≡ unescape_from (Some []) (drop (read + 1) old)
   at_mark =
@@ -139,7 +139,7 @@ module _ (old new : List ℕ) (written read c count : ℕ) (cut : IsCut old writ
       (drop-drop count (read + 1) old ∙ sym (behind_front old new (written + len_utf8 c) (read + 1 + count) (let o = cut.order in let short = reads.short in omega arith) rest))
 
 -- an escape that is at fault
-pub mark_fault : (old : List ℕ) (written read : ℕ) (w : LineWhich) → IsCut old written read → read < length old → unescape_from (Some []) (drop (read + 1) old) ≡ Err w → comes_to old written read ≡ Err w
+pub mark_fault : (old : List ℕ) (written read : ℕ) (w : LineWhich) → IsPartlyReplaced old written read → read < length old → unescape_from (Some []) (drop (read + 1) old) ≡ Err w → comes_to old written read ≡ Err w
 mark_fault old written read w cut more fault =
     ap (λ (s : List ℕ). put_before (take written old) (unescape s)) (drop_more old read 0 more)
     ∙ ap (λ (b : ℕ). put_before (take written old) (unescape (b ∷ drop (read + 1) old))) (cut.mark more)

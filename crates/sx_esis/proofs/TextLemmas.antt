@@ -10,7 +10,7 @@ use Rattle.std.specs.Char.{encode_utf8, IsScalar}
 use Rattle.std.specs.List.{list_all}
 use Rattle.std.specs.Str.{IsUtf8, all_scalars, encode_utf8_all}
 use lib.Utf8.{scalar}
-use Rattle.sx_esis.specs.Escapes.{Escape, stands_for, begins, is_fault, is_octal, is_decimal, is_character, character, number, octal, decimal, escape_of, put_before, go_on, unescape, unescape_from}
+use Rattle.sx_esis.specs.Escapes.{Escape, stands_for, begins, is_fault, is_octal_digit, is_decimal_digit, is_character, character, number, octal_escape, decimal, escape_of, put_before, go_on, unescape, unescape_from}
 use Rattle.sx_esis.specs.declared.faults.LineWhich.{LineWhich}
 use Rattle.sx_esis.specs.declared.faults.LineWhich.TheVariants as which
 use Rattle.sx_esis.proofs.ReplaceLemmas.{is_mark, put_before-nil, put_before-append}
@@ -40,12 +40,12 @@ one_text c s small e =
 
 decimal_text : (before ds s : List ℕ) → decimal before ds ≡ stands_for s → IsUtf8 s
 decimal_text before [] s e = cc
-decimal_text [] (d ∷ ds) s e = at (is_decimal d) e (decimal_text (d ∷ []) ds s)
+decimal_text [] (d ∷ ds) s e = at (is_decimal_digit d) e (decimal_text (d ∷ []) ds s)
   where
     at : (digit : Bool) → cond digit (decimal (d ∷ []) ds) fault ≡ stands_for s → (decimal (d ∷ []) ds ≡ stands_for s → IsUtf8 s) → IsUtf8 s
     at true e rest = rest e
     at false e rest = cc
-decimal_text (b ∷ bs) (d ∷ ds) s e = at (is_decimal d) (eqb d 59) e (decimal_text (b ∷ bs ++ d ∷ []) ds s)
+decimal_text (b ∷ bs) (d ∷ ds) s e = at (is_decimal_digit d) (eqb d 59) e (decimal_text (b ∷ bs ++ d ∷ []) ds s)
   where
     at : (digit semicolon : Bool) → cond digit (decimal (b ∷ bs ++ d ∷ []) ds) (cond semicolon (character (number 10 (b ∷ bs))) fault) ≡ stands_for s →
         (decimal (b ∷ bs ++ d ∷ []) ds ≡ stands_for s → IsUtf8 s) → IsUtf8 s
@@ -53,7 +53,7 @@ decimal_text (b ∷ bs) (d ∷ ds) s e = at (is_decimal d) (eqb d 59) e (decimal
     at false true e rest = character_text (number 10 (b ∷ bs)) s e
     at false false e rest = cc
 
-octal_text : (ds s : List ℕ) → octal ds ≡ stands_for s → IsUtf8 s
+octal_text : (ds s : List ℕ) → octal_escape ds ≡ stands_for s → IsUtf8 s
 octal_text [] s e = cc
 octal_text (a ∷ []) s e = cc
 octal_text (a ∷ b ∷ []) s e = cc
@@ -71,9 +71,9 @@ by_tests backslash line_feed numbered system octals decimals digits =
 
 escape_text : (escape s : List ℕ) → escape_of escape ≡ stands_for s → IsUtf8 s
 escape_text [] s e = cc
-escape_text (first ∷ ds) s e = at (eqb first 92) (eqb first 110) (eqb first 35) (eqb first 124) (list_all is_octal (first ∷ ds)) e
+escape_text (first ∷ ds) s e = at (eqb first 92) (eqb first 110) (eqb first 35) (eqb first 124) (list_all is_octal_digit (first ∷ ds)) e
   where
-    at : (backslash line_feed numbered system octals : Bool) → by_tests backslash line_feed numbered system octals (decimal [] ds) (octal (first ∷ ds)) ≡ stands_for s → IsUtf8 s
+    at : (backslash line_feed numbered system octals : Bool) → by_tests backslash line_feed numbered system octals (decimal [] ds) (octal_escape (first ∷ ds)) ≡ stands_for s → IsUtf8 s
     at true l n y o e = one_text 92 s (omega arith) e
     at false true n y o e = one_text 10 s (omega arith) e
     at false false true y o e = decimal_text [] ds s e
@@ -83,10 +83,10 @@ escape_text (first ∷ ds) s e = at (eqb first 92) (eqb first 110) (eqb first 35
 
 -- a byte beyond ASCII goes on with no escape
 module _ (b : ℕ) (high : 128 ≤ b) where
-  no_decimal : is_decimal b ≡ false
+  no_decimal : is_decimal_digit b ≡ false
   no_decimal = grind (arith, nat_tests)
 
-  no_octal : is_octal b ≡ false
+  no_octal : is_octal_digit b ≡ false
   no_octal = grind (arith, nat_tests)
 
   no_byte : (n : ℕ) → n < 128 → eqb b n ≡ false
@@ -104,12 +104,12 @@ module _ (b : ℕ) (high : 128 ≤ b) where
   high_decimal (x ∷ xs) [] e =
       ap (λ (v : Bool). cond v (decimal (x ∷ xs ++ b ∷ []) []) (cond (eqb b 59) (character (number 10 (x ∷ xs))) fault)) no_decimal
       ∙ ap (λ (v : Bool). cond v (character (number 10 (x ∷ xs))) fault) (no_byte 59 (omega arith))
-  high_decimal [] (d ∷ ds) e = at (is_decimal d) e (high_decimal (d ∷ []) ds)
+  high_decimal [] (d ∷ ds) e = at (is_decimal_digit d) e (high_decimal (d ∷ []) ds)
     where
       at : (digit : Bool) → cond digit (decimal (d ∷ []) ds) fault ≡ begins → (decimal (d ∷ []) ds ≡ begins → decimal (d ∷ []) (ds ++ b ∷ []) ≡ fault) → cond digit (decimal (d ∷ []) (ds ++ b ∷ [])) fault ≡ fault
       at true e rest = rest e
       at false e rest = refl
-  high_decimal (x ∷ xs) (d ∷ ds) e = at (is_decimal d) (eqb d 59) e (high_decimal (x ∷ xs ++ d ∷ []) ds)
+  high_decimal (x ∷ xs) (d ∷ ds) e = at (is_decimal_digit d) (eqb d 59) e (high_decimal (x ∷ xs ++ d ∷ []) ds)
     where
       at : (digit semicolon : Bool) → cond digit (decimal (x ∷ xs ++ d ∷ []) ds) (cond semicolon (character (number 10 (x ∷ xs))) fault) ≡ begins →
           (decimal (x ∷ xs ++ d ∷ []) ds ≡ begins → decimal (x ∷ xs ++ d ∷ []) (ds ++ b ∷ []) ≡ fault) →
@@ -120,27 +120,27 @@ module _ (b : ℕ) (high : 128 ≤ b) where
 
   high_first : escape_of (b ∷ []) ≡ fault
   high_first =
-      ap (λ (v : Bool). by_tests v (eqb b 110) (eqb b 35) (eqb b 124) (list_all is_octal (b ∷ [])) begins begins) (no_byte 92 (omega arith))
-      ∙ ap (λ (v : Bool). by_tests false v (eqb b 35) (eqb b 124) (list_all is_octal (b ∷ [])) begins begins) (no_byte 110 (omega arith))
-      ∙ ap (λ (v : Bool). by_tests false false v (eqb b 124) (list_all is_octal (b ∷ [])) begins begins) (no_byte 35 (omega arith))
-      ∙ ap (λ (v : Bool). by_tests false false false v (list_all is_octal (b ∷ [])) begins begins) (no_byte 124 (omega arith))
+      ap (λ (v : Bool). by_tests v (eqb b 110) (eqb b 35) (eqb b 124) (list_all is_octal_digit (b ∷ [])) begins begins) (no_byte 92 (omega arith))
+      ∙ ap (λ (v : Bool). by_tests false v (eqb b 35) (eqb b 124) (list_all is_octal_digit (b ∷ [])) begins begins) (no_byte 110 (omega arith))
+      ∙ ap (λ (v : Bool). by_tests false false v (eqb b 124) (list_all is_octal_digit (b ∷ [])) begins begins) (no_byte 35 (omega arith))
+      ∙ ap (λ (v : Bool). by_tests false false false v (list_all is_octal_digit (b ∷ [])) begins begins) (no_byte 124 (omega arith))
       ∙ ap (λ (v : Bool). by_tests false false false false (v && true) begins begins) no_octal
 
   high_escape : (escape : List ℕ) → escape_of escape ≡ begins → escape_of (escape ++ b ∷ []) ≡ fault
   high_escape [] e = high_first
-  high_escape (first ∷ ds) e = at (eqb first 92) (eqb first 110) (eqb first 35) (eqb first 124) (list_all is_octal (first ∷ ds)) e
+  high_escape (first ∷ ds) e = at (eqb first 92) (eqb first 110) (eqb first 35) (eqb first 124) (list_all is_octal_digit (first ∷ ds)) e
     where
-      none : list_all is_octal (first ∷ ds ++ b ∷ []) ≡ false
+      none : list_all is_octal_digit (first ∷ ds ++ b ∷ []) ≡ false
       none =
-          list_all-append is_octal (first ∷ ds) (b ∷ []) ∙ and_right (list_all is_octal (first ∷ ds)) (is_octal b && true) (ap (λ (v : Bool). v && true) no_octal)
+          list_all-append is_octal_digit (first ∷ ds) (b ∷ []) ∙ and_right (list_all is_octal_digit (first ∷ ds)) (is_octal_digit b && true) (ap (λ (v : Bool). v && true) no_octal)
 
-      at : (backslash line_feed numbered system octals : Bool) → by_tests backslash line_feed numbered system octals (decimal [] ds) (octal (first ∷ ds)) ≡ begins →
-          by_tests backslash line_feed numbered system (list_all is_octal (first ∷ ds ++ b ∷ [])) (decimal [] (ds ++ b ∷ [])) (octal (first ∷ ds ++ b ∷ [])) ≡ fault
+      at : (backslash line_feed numbered system octals : Bool) → by_tests backslash line_feed numbered system octals (decimal [] ds) (octal_escape (first ∷ ds)) ≡ begins →
+          by_tests backslash line_feed numbered system (list_all is_octal_digit (first ∷ ds ++ b ∷ [])) (decimal [] (ds ++ b ∷ [])) (octal_escape (first ∷ ds ++ b ∷ [])) ≡ fault
       at true l n y o e = cc
       at false true n y o e = cc
       at false false true y o e = high_decimal [] ds e
       at false false false true o e = cc
-      at false false false false o e = ap (λ (v : Bool). cond v (octal (first ∷ ds ++ b ∷ [])) fault) none
+      at false false false false o e = ap (λ (v : Bool). cond v (octal_escape (first ∷ ds ++ b ∷ [])) fault) none
 
 -- bytes none of which begins an escape stay
 plain_byte : (mark : Bool) (b : ℕ) (s rest : List ℕ) → (not mark && list_all (λ b. not (is_mark b)) s) ≡ true → (list_all (λ b. not (is_mark b)) s ≡ true → unescape (s ++ rest) ≡ put_before s (unescape rest)) →
@@ -148,11 +148,11 @@ plain_byte : (mark : Bool) (b : ℕ) (s rest : List ℕ) → (not mark && list_a
 plain_byte true b s rest all more = absurd (false≢true all)
 plain_byte false b s rest all more = ap (put_before (b ∷ [])) (more all) ∙ sym (put_before-append (b ∷ []) s (unescape rest))
 
-plain_bytes : (s rest : List ℕ) → list_all (λ b. not (is_mark b)) s ≡ true → unescape (s ++ rest) ≡ put_before s (unescape rest)
+pub plain_bytes : (s rest : List ℕ) → list_all (λ b. not (is_mark b)) s ≡ true → unescape (s ++ rest) ≡ put_before s (unescape rest)
 plain_bytes [] rest all = sym (put_before-nil (unescape rest))
 plain_bytes (b ∷ s) rest all = plain_byte (is_mark b) b s rest all (plain_bytes s rest)
 
-high_bytes : (c k : ℕ) → 128 ≤ c → k < length (encode_utf8 c) → 128 ≤ get_or (encode_utf8 c) k 0
+pub high_bytes : (c k : ℕ) → 128 ≤ c → k < length (encode_utf8 c) → 128 ≤ get_or (encode_utf8 c) k 0
 high_bytes c k high within = at (ltb (get_or (encode_utf8 c) k 0) 128) refl
   where
     at : (low : Bool) → ltb (get_or (encode_utf8 c) k 0) 128 ≡ low → 128 ≤ get_or (encode_utf8 c) k 0
@@ -162,7 +162,7 @@ high_bytes c k high within = at (ltb (get_or (encode_utf8 c) k 0) 128) refl
         omega arith
     at false e = grind (arith, nat_tests)
 
-high_plain : (c : ℕ) → 128 ≤ c → list_all (λ b. not (is_mark b)) (encode_utf8 c) ≡ true
+pub high_plain : (c : ℕ) → 128 ≤ c → list_all (λ b. not (is_mark b)) (encode_utf8 c) ≡ true
 high_plain c high =
     and_from_places (list_all (λ b. not (is_mark b))) (λ b. not (is_mark b)) refl (λ b bs. refl) (encode_utf8 c) 0
     (λ k within. ap not (no_byte (get_or (encode_utf8 c) k 0) (high_bytes c k high within) 92 (omega arith)))

@@ -12,12 +12,12 @@ pub data Escape : Type 0 where
   is_fault : LineWhich → Escape
 
 -- a digit of base 8
-abbrev pub is_octal : ℕ → Bool
-is_octal d = nat_le 48 d && nat_le d 55
+abbrev pub is_octal_digit : ℕ → Bool
+is_octal_digit d = nat_le 48 d && nat_le d 55
 
 -- a digit of base 10
-abbrev pub is_decimal : ℕ → Bool
-is_decimal d = nat_le 48 d && nat_le d 57
+abbrev pub is_decimal_digit : ℕ → Bool
+is_decimal_digit d = nat_le 48 d && nat_le d 57
 
 -- the number that digits of a base write behind a number
 abbrev pub number_behind : ℕ → ℕ → List ℕ → ℕ
@@ -36,29 +36,29 @@ is_character n = (nat_lt 0 n && nat_lt n 55296) || (nat_lt 57343 n && nat_lt n 1
 abbrev pub character : ℕ → Escape
 character n = if is_character n then stands_for (encode_utf8 n) else is_fault which.BadEscape
 
--- octal digits: three of them are a character from 1 to 255
-abbrev pub octal : List ℕ → Escape
-octal (a ∷ b ∷ c ∷ []) = if nat_lt (number 8 (a ∷ b ∷ c ∷ [])) 256 then character (number 8 (a ∷ b ∷ c ∷ [])) else is_fault which.BadEscape
-octal ds = begins
+-- octal_escape digits: three of them are a character from 1 to 255
+abbrev pub octal_escape : List ℕ → Escape
+octal_escape (a ∷ b ∷ c ∷ []) = if nat_lt (number 8 (a ∷ b ∷ c ∷ [])) 256 then character (number 8 (a ∷ b ∷ c ∷ [])) else is_fault which.BadEscape
+octal_escape ds = begins
 
 -- decimal digits up to a semicolon, where some stand before this
 abbrev pub decimal : List ℕ → List ℕ → Escape
 decimal before [] = begins
-decimal [] (d ∷ ds) = if is_decimal d then decimal (d ∷ []) ds else is_fault which.BadEscape
+decimal [] (d ∷ ds) = if is_decimal_digit d then decimal (d ∷ []) ds else is_fault which.BadEscape
 decimal (b ∷ bs) (d ∷ ds) =
-    if is_decimal d then decimal (b ∷ bs ++ d ∷ []) ds
+    if is_decimal_digit d then decimal (b ∷ bs ++ d ∷ []) ds
     else if d == 59 then character (number 10 (b ∷ bs))
     else is_fault which.BadEscape
 
 -- what an escape comes to by its first byte behind the backslash: a backslash, `n` for a line feed, `#` before a decimal
--- number, `|` for system data, an octal digit
+-- number, `|` for system data, an octal_escape digit
 abbrev pub escape_with : ℕ → List ℕ → Escape
 escape_with first ds =
     if first == 92 then stands_for (92 ∷ [])
     else if first == 110 then stands_for (10 ∷ [])
     else if first == 35 then decimal [] ds
     else if first == 124 then is_fault which.Sdata
-    else if list_all is_octal (first ∷ ds) then octal (first ∷ ds)
+    else if list_all is_octal_digit (first ∷ ds) then octal_escape (first ∷ ds)
     else is_fault which.BadEscape
 
 -- what the bytes behind a backslash come to

@@ -7,7 +7,7 @@ use Rattle.sx_esis.specs.declared.reader.LineView.{LineView}
 use Rattle.sx_esis.specs.declared.reader.LineView.TheVariants.{Start, End, Attr, Implied, Text, Pi, Skipped, Conforming}
 use Rattle.sx_esis.specs.Lines.{Line, starts, ends, has, lacks, says, instructs, skips, conforms, Fault, Reading, lines_of, line_within}
 use Rattle.sx_esis.specs.Buffered.{taken_line, waiting}
-use Rattle.sx_esis.specs.LineReader.{IsShown, LinesStand, line_shown, unread}
+use Rattle.sx_esis.specs.LineReader.{IsLineShown, LinesStand, line_shown, unread}
 
 -- the line that a view shows
 abbrev pub view_line : LineView → Line
@@ -21,7 +21,7 @@ view_line Skipped = skips
 view_line Conforming = conforms
 
 -- All that can be read was given, and it is not at fault.
-pub record GaveAll (reading : Reading) (given : ℕ) : Type 0 where
+pub record GaveAllLines (reading : Reading) (given : ℕ) : Type 0 where
   pub all : given ≡ length reading.lines
   pub sound : reading.fault ≡ None
 
@@ -35,16 +35,16 @@ pub record GivesFault (reading : Reading) (bytes : List ℕ) (given : ℕ) (f : 
   pub line : length bytes < 2 ^ 62 → f.line ≡ fault.line
 
 -- The reader went on to the line behind those given and shows it, or it gave all, or it met the fault.
-abbrev pub Advances : ℕ → List ℕ → Bool → ℕ → LineReader → Option (Result Unit LineFault) → Type 0
-Advances limit bytes ended given new None = GaveAll (lines_of limit bytes ended) given × LinesStand new limit bytes ended given
-Advances limit bytes ended given new (Some (Ok done)) = (slice_get (lines_of limit bytes ended).lines given ≡ Some (line_shown new)) × LinesStand new limit bytes ended (given + 1)
-Advances limit bytes ended given new (Some (Err f)) = GivesFault (lines_of limit bytes ended) bytes given f × LinesStand new limit bytes ended given
+abbrev pub AdvancesLine : ℕ → List ℕ → Bool → ℕ → LineReader → Option (Result Unit LineFault) → Type 0
+AdvancesLine limit bytes ended given new None = GaveAllLines (lines_of limit bytes ended) given × LinesStand new limit bytes ended given
+AdvancesLine limit bytes ended given new (Some (Ok done)) = (slice_get (lines_of limit bytes ended).lines given ≡ Some (line_shown new)) × LinesStand new limit bytes ended (given + 1)
+AdvancesLine limit bytes ended given new (Some (Err f)) = GivesFault (lines_of limit bytes ended) bytes given f × LinesStand new limit bytes ended given
 
 -- The reader gave the line behind those given before, or it gave all, or it met the fault.
-abbrev pub Gives : ℕ → List ℕ → Bool → ℕ → LineReader → Option (Result LineView LineFault) → Type 0
-Gives limit bytes ended given new None = GaveAll (lines_of limit bytes ended) given × LinesStand new limit bytes ended given
-Gives limit bytes ended given new (Some (Ok view)) = (slice_get (lines_of limit bytes ended).lines given ≡ Some (view_line view)) × LinesStand new limit bytes ended (given + 1)
-Gives limit bytes ended given new (Some (Err f)) = GivesFault (lines_of limit bytes ended) bytes given f × LinesStand new limit bytes ended given
+abbrev pub GivesLine : ℕ → List ℕ → Bool → ℕ → LineReader → Option (Result LineView LineFault) → Type 0
+GivesLine limit bytes ended given new None = GaveAllLines (lines_of limit bytes ended) given × LinesStand new limit bytes ended given
+GivesLine limit bytes ended given new (Some (Ok view)) = (slice_get (lines_of limit bytes ended).lines given ≡ Some (view_line view)) × LinesStand new limit bytes ended (given + 1)
+GivesLine limit bytes ended given new (Some (Err f)) = GivesFault (lines_of limit bytes ended) bytes given f × LinesStand new limit bytes ended given
 
 -- An answer with a line.
 abbrev pub IsLineGiven : {T : Type 0} → Option (Result T LineFault) → Type 0
@@ -54,7 +54,7 @@ IsLineGiven (Some (Err f)) = ⊥
 
 -- What a reader becomes that gave this answer.
 pub record Follows (old : LineReader) (result : Option (Result LineView LineFault)) (new : LineReader) : Type 0 where
-  pub gives : (limit : ℕ) (bytes : List ℕ) (ended : Bool) (given : ℕ) → LinesStand old limit bytes ended given → Gives limit bytes ended given new result
+  pub gives : (limit : ℕ) (bytes : List ℕ) (ended : Bool) (given : ℕ) → LinesStand old limit bytes ended given → GivesLine limit bytes ended given new result
   pub progress : IsLineGiven result → unread new < unread old
 
 -- What was fed, and how it is to be read, stays.
@@ -67,7 +67,7 @@ pub record Keeps (old new : LineReader) : Type 0 where
 pub record Counts (old new : LineReader) : Type 0 where
   pub keeps : Keeps old new
   pub line : line_within old.limit (taken_line old.buffer) ≡ Ok (line_shown new)
-  pub shown : IsShown new
+  pub shown : IsLineShown new
   pub number : new.number ≡ min (old.number + 1) (2 ^ 64 - 1)
   pub fault : new.fault ≡ old.fault
 

@@ -48,8 +48,8 @@ abbrev pub is_unsupported : ℕ → Bool
 is_unsupported b = is_one_of (codes "&{}Da") b
 
 -- bytes are text: UTF-8 without a zero
-abbrev pub is_text : List ℕ → Bool
-is_text line = is_utf8 line && list_all (λ b. not (b == 0)) line
+abbrev pub is_text_line : List ℕ → Bool
+is_text_line line = is_utf8 line && list_all (λ b. not (b == 0)) line
 
 -- these bytes, or none
 abbrev pub or_empty : Option (List ℕ) → List ℕ
@@ -99,7 +99,7 @@ abbrev pub line_of : List ℕ → Result Line LineWhich
 line_of [] = Err which.BadCommand
 line_of (first ∷ s) =
     if is_skipped first then Ok skips
-    else if not (is_text (first ∷ s)) then Err which.NotUtf8
+    else if not (is_text_line (first ∷ s)) then Err which.NotUtf8
     else if is_unsupported first then Err which.Unsupported
     else command first s
 

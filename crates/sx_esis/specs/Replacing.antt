@@ -9,7 +9,7 @@ abbrev pub comes_to : List ℕ → ℕ → ℕ → Result (List ℕ) LineWhich
 comes_to bytes written read = put_before (take written bytes) (unescape (drop read bytes))
 
 -- The front that was written ends no later than what is to be read begins, and there an escape stands, or nothing.
-pub record IsCut (bytes : List ℕ) (written read : ℕ) : Type 0 where
+pub record IsPartlyReplaced (bytes : List ℕ) (written read : ℕ) : Type 0 where
   pub order : written ≤ read
   pub within : read ≤ length bytes
   pub mark : read < length bytes → slice_index bytes read ≡ 92

@@ -5,7 +5,7 @@ ghost use Rattle.std.specs.Prelude.{Ok, Err, IfOk, IfErr};
 ghost use Rattle.std.specs.Char.{encode_utf8, len_utf8};
 ghost use Rattle.std.specs.List.{list_all, position, position_or_len};
 ghost use Rattle.sx_esis.specs.Escapes as spec;
-ghost use Rattle.sx_esis.specs.Replacing.{IsCut, IsOther, ReadsCharacter, comes_to};
+ghost use Rattle.sx_esis.specs.Replacing.{IsPartlyReplaced, IsOther, ReadsCharacter, comes_to};
 
 use crate::faults::LineWhich;
 use crate::places::place_of;
@@ -44,9 +44,9 @@ pub(crate) fn unescape(bytes: &mut [u8]) -> Result<usize, LineWhich>
 
 /// Replaces the escape that is to be read next, and moves the plain text behind it.
 fn replace_escape(bytes: &mut [u8], places: Places) -> Result<Places, LineWhich>
-    requires cut { IsCut bytes.old places.written places.read }
+    requires cut { IsPartlyReplaced bytes.old places.written places.read }
     requires more { places.read < length bytes.old }
-    ensures ok { IfOk result (λ p. IsCut bytes.new p.written p.read × (places.read < p.read)
+    ensures ok { IfOk result (λ p. IsPartlyReplaced bytes.new p.written p.read × (places.read < p.read)
         × (comes_to bytes.old places.written places.read ≡ comes_to bytes.new p.written p.read)) }
     ensures err { IfErr result (λ w. comes_to bytes.old places.written places.read ≡ Err w) }
 {
@@ -76,7 +76,7 @@ fn put_character(bytes: &mut [u8], written: usize, character: char) -> usize
 fn move_plain(bytes: &mut [u8], places: Places) -> Places
     requires order { places.written ≤ places.read }
     requires within { places.read ≤ length bytes.old }
-    ensures cut { IsCut bytes.new result.written result.read }
+    ensures cut { IsPartlyReplaced bytes.new result.written result.read }
     ensures forward { places.read ≤ result.read }
     ensures same { comes_to bytes.old places.written places.read
         ≡ comes_to bytes.new result.written result.read }
@@ -146,19 +146,19 @@ fn octal(bytes: &[u8]) -> Result<Replacement, LineWhich>
 }
 
 fn digit_count(bytes: &[u8]) -> usize
-    ensures { result ≡ position_or_len (λ b. not (spec.is_decimal b)) bytes.now }
+    ensures { result ≡ position_or_len (λ b. not (spec.is_decimal_digit b)) bytes.now }
 {
     place_of_no_digit(bytes).unwrap_or(bytes.len())
 }
 
 fn place_of_no_digit(bytes: &[u8]) -> Option<usize>
-    ensures { result ≡ position (λ b. not (spec.is_decimal b)) bytes.now }
+    ensures { result ≡ position (λ b. not (spec.is_decimal_digit b)) bytes.now }
 {
     bytes.iter().position(|b| !b.is_ascii_digit())
 }
 
 fn are_octal(bytes: &[u8]) -> bool
-    ensures { result ≡ list_all spec.is_octal bytes.now }
+    ensures { result ≡ list_all spec.is_octal_digit bytes.now }
 {
     bytes.iter().all(|b| matches!(b, b'0'..=b'7'))
 }

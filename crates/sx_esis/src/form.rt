@@ -84,7 +84,7 @@ fn is_unsupported(first: u8) -> bool
 
 /// Whether each byte is one of ASCII, and none a zero, which makes a line text. Most lines are such, and are told at once.
 fn is_plain(line: &[u8]) -> bool
-    ensures { IsTrue result → lines.is_text line.now ≡ true }
+    ensures { IsTrue result → lines.is_text_line line.now ≡ true }
 {
     let mut least = u8::MAX;
     let mut bits = 0;
@@ -97,8 +97,8 @@ fn is_plain(line: &[u8]) -> bool
 
 /// A line that is text: UTF-8 without a zero.
 fn text_of(line: &[u8]) -> Result<&str, LineWhich>
-    ensures ok { IfOk result (λ s. (s.now ≡ line.now) × (lines.is_text line.now ≡ true)) }
-    ensures err { IfErr result (λ w. (w ≡ LineWhich.NotUtf8) × (lines.is_text line.now ≡ false)) }
+    ensures ok { IfOk result (λ s. (s.now ≡ line.now) × (lines.is_text_line line.now ≡ true)) }
+    ensures err { IfErr result (λ w. (w ≡ LineWhich.NotUtf8) × (lines.is_text_line line.now ≡ false)) }
 {
     if is_plain(line) {
         return Ok(text(line));
@@ -110,8 +110,8 @@ fn text_of(line: &[u8]) -> Result<&str, LineWhich>
 }
 
 fn without_zero(text: &str) -> Result<&str, LineWhich>
-    ensures ok { IfOk result (λ s. (s.now ≡ text.now) × (lines.is_text text.now ≡ true)) }
-    ensures err { IfErr result (λ w. (w ≡ LineWhich.NotUtf8) × (lines.is_text text.now ≡ false)) }
+    ensures ok { IfOk result (λ s. (s.now ≡ text.now) × (lines.is_text_line text.now ≡ true)) }
+    ensures err { IfErr result (λ w. (w ≡ LineWhich.NotUtf8) × (lines.is_text_line text.now ≡ false)) }
 {
     if place_of(0, text.as_bytes()) < text.len() {
         return Err(LineWhich::NotUtf8);
@@ -123,8 +123,8 @@ fn without_zero(text: &str) -> Result<&str, LineWhich>
 fn text_behind(line: &[u8]) -> Result<&str, LineWhich>
     requires some { 0 < length line.now }
     requires ascii { slice_index line.now 0 < 128 }
-    ensures ok { IfOk result (λ s. (s.now ≡ drop 1 line.now) × (lines.is_text line.now ≡ true)) }
-    ensures err { IfErr result (λ w. (w ≡ LineWhich.NotUtf8) × (lines.is_text line.now ≡ false)) }
+    ensures ok { IfOk result (λ s. (s.now ≡ drop 1 line.now) × (lines.is_text_line line.now ≡ true)) }
+    ensures err { IfErr result (λ w. (w ≡ LineWhich.NotUtf8) × (lines.is_text_line line.now ≡ false)) }
 {
     match text_of(line) {
         Ok(text) => Ok(&text[1..]),
@@ -134,7 +134,7 @@ fn text_behind(line: &[u8]) -> Result<&str, LineWhich>
 
 /// What is wrong with a line that has this fault, if it is text.
 fn unless_no_text(line: &[u8], which: LineWhich) -> LineWhich
-    ensures { result ≡ (if lines.is_text line.now then which else LineWhich.NotUtf8) }
+    ensures { result ≡ (if lines.is_text_line line.now then which else LineWhich.NotUtf8) }
 {
     match text_of(line) {
         Ok(_) => which,

@@ -6,8 +6,8 @@ ghost use Rattle.std.specs.Str.{IsUtf8};
 ghost use Rattle.sx_esis.specs.Forms.{Fits, says_in};
 ghost use Rattle.sx_esis.specs.Lines.{line_within};
 ghost use Rattle.sx_esis.specs.Buffered.{taken_line, waiting};
-ghost use Rattle.sx_esis.specs.LineReader.{IsShown, LinesStand, line_shown, unread};
-ghost use Rattle.sx_esis.specs.Gives.{Advances, Fails, IsLineGiven, Judges, view_line};
+ghost use Rattle.sx_esis.specs.LineReader.{IsLineShown, LinesStand, line_shown, unread};
+ghost use Rattle.sx_esis.specs.Gives.{AdvancesLine, Fails, IsLineGiven, Judges, view_line};
 
 use crate::faults::{LineFault, LineWhich};
 use crate::form::{Form, form_of};
@@ -165,8 +165,8 @@ impl LineReader {
     fn advance(&mut self) -> Option<Result<(), LineFault>>
         ensures gives { (limit : ℕ) (bytes : List ℕ) (ended : Bool) (given : ℕ)
             → LinesStand self.old limit bytes ended given
-            → Advances limit bytes ended given self.new result }
-        ensures shown { IsLineGiven result → IsShown self.new }
+            → AdvancesLine limit bytes ended given self.new result }
+        ensures shown { IsLineGiven result → IsLineShown self.new }
         ensures progress { IsLineGiven result → unread self.new < unread self.old }
     {
         match self.fault {
@@ -180,8 +180,8 @@ impl LineReader {
         requires { self.old.fault ≡ None }
         ensures gives { (limit : ℕ) (bytes : List ℕ) (ended : Bool) (given : ℕ)
             → LinesStand self.old limit bytes ended given
-            → Advances limit bytes ended given self.new result }
-        ensures shown { IsLineGiven result → IsShown self.new }
+            → AdvancesLine limit bytes ended given self.new result }
+        ensures shown { IsLineGiven result → IsLineShown self.new }
         ensures progress { IsLineGiven result → unread self.new < unread self.old }
     {
         if let Some(line_length) = self.buffer.find_line() {
@@ -201,7 +201,7 @@ impl LineReader {
 
     /// The line that `advance` went to.
     fn view(&self) -> LineView<'_>
-        requires { IsShown self.now }
+        requires { IsLineShown self.now }
         ensures { view_line result ≡ line_shown self.now }
     {
         view_of(self.form, self.buffer.line())

@@ -1,7 +1,7 @@
--- The course of lines, one list behind the other.
+-- The course of lines, one list place_behind the other.
 use Rattle.std.proofs.Common.{◌≡◌, ℕ, suc, ◌+◌, List, [], ◌∷◌, ◌++◌, length, Option, Some, None, refl, ap, sym, ◌∙◌, append_assoc, append-nil, arith}
 use Rattle.sx_esis.specs.Lines.{Line, starts, ends, has, lacks, says, instructs, skips, conforms}
-use Rattle.sx_events.specs.Course.{Lined, Course, course, events_at, behind, by_fault, fault_next, put_events}
+use Rattle.sx_events.specs.Course.{Lined, Course, course, events_at, place_behind, by_fault, fault_next, put_events}
 use Rattle.sx_events.specs.Place.{Place, fault_of}
 use Rattle.sx_limits.specs.declared.faults.DocFault.{DocFault}
 use Rattle.sx_limits.specs.declared.faults.Which.{Which}
@@ -17,28 +17,28 @@ sound_step : (f : Option Which) (p : Place) (e : List Lined) (c d : Course) (k :
 sound_step (Some w) p e c d k h more = absurd (cc)
 sound_step None p e c d k h more = ap (put_events e) (more h) ∙ put_twice e c.events (k c.place)
 
--- behind lines that are not at fault, more lines go on
+-- place_behind lines that are not at fault, more lines go on
 pub course-sound : (limits : Limits) (p : Place) (xs ys : List Line) → (course limits p xs).fault ≡ None →
     course limits p (xs ++ ys) ≡ put_events (course limits p xs).events (course limits (course limits p xs).place ys)
 course-sound limits p [] ys h = refl
 course-sound limits p (x ∷ xs) ys h =
-    sound_step (fault_of limits p x) p (events_at p x) (course limits (behind p x) xs) (course limits (behind p x) (xs ++ ys)) (λ q. course limits q ys) h
-    (course-sound limits (behind p x) xs ys)
+    sound_step (fault_of limits p x) p (events_at p x) (course limits (place_behind p x) xs) (course limits (place_behind p x) (xs ++ ys)) (λ q. course limits q ys) h
+    (course-sound limits (place_behind p x) xs ys)
 
 broken_step : (f : Option Which) (p : Place) (e : List Lined) (c d : Course) (g : DocFault) →
     (by_fault p f (put_events e c)).fault ≡ Some g → (c.fault ≡ Some g → d ≡ c) → by_fault p f (put_events e d) ≡ by_fault p f (put_events e c)
 broken_step (Some w) p e c d g h more = refl
 broken_step None p e c d g h more = ap (put_events e) (more h)
 
--- behind a line that is at fault, more lines change nothing
+-- place_behind a line that is at fault, more lines change nothing
 pub course-broken : (limits : Limits) (p : Place) (xs ys : List Line) (g : DocFault) → (course limits p xs).fault ≡ Some g →
     course limits p (xs ++ ys) ≡ course limits p xs
 course-broken limits p [] ys g h = absurd (cc)
 course-broken limits p (x ∷ xs) ys g h =
-    broken_step (fault_of limits p x) p (events_at p x) (course limits (behind p x) xs) (course limits (behind p x) (xs ++ ys)) g h
-    (course-broken limits (behind p x) xs ys g)
+    broken_step (fault_of limits p x) p (events_at p x) (course limits (place_behind p x) xs) (course limits (place_behind p x) (xs ++ ys)) g h
+    (course-broken limits (place_behind p x) xs ys g)
 
-pub one_line : (p : Place) (l : Line) → (behind p l).lines ≡ suc p.lines
+pub one_line : (p : Place) (l : Line) → (place_behind p l).lines ≡ suc p.lines
 one_line p (starts name) = refl
 one_line p (ends name) = refl
 one_line p (has name value) = refl
@@ -57,25 +57,25 @@ lines_step None p e c n m h one more = let is = more h in omega (arith, is, one)
 pub course-lines : (limits : Limits) (p : Place) (xs : List Line) → (course limits p xs).fault ≡ None → (course limits p xs).place.lines ≡ p.lines + length xs
 course-lines limits p [] h = omega arith
 course-lines limits p (x ∷ xs) h =
-    lines_step (fault_of limits p x) p (events_at p x) (course limits (behind p x) xs) (length xs) (behind p x).lines h (one_line p x)
-    (course-lines limits (behind p x) xs)
+    lines_step (fault_of limits p x) p (events_at p x) (course limits (place_behind p x) xs) (length xs) (place_behind p x).lines h (one_line p x)
+    (course-lines limits (place_behind p x) xs)
 
 module _ (limits : Limits) (p : Place) (xs : List Line) (l : Line) (sound : (course limits p xs).fault ≡ None) where
   abbrev here : Place
   here = (course limits p xs).place
 
   with_fault : (f : Option Which) → fault_of limits here l ≡ f →
-      course limits p (xs ++ l ∷ []) ≡ put_events (course limits p xs).events (by_fault here f (put_events (events_at here l) (course limits (behind here l) [])))
+      course limits p (xs ++ l ∷ []) ≡ put_events (course limits p xs).events (by_fault here f (put_events (events_at here l) (course limits (place_behind here l) [])))
   with_fault f is =
       course-sound limits p xs (l ∷ []) sound
-      ∙ ap (λ (g : Option Which). put_events (course limits p xs).events (by_fault here g (put_events (events_at here l) (course limits (behind here l) [])))) is
+      ∙ ap (λ (g : Option Which). put_events (course limits p xs).events (by_fault here g (put_events (events_at here l) (course limits (place_behind here l) [])))) is
 
   -- one line more that is not at fault
   pub course-next : fault_of limits here l ≡ None →
-      course limits p (xs ++ l ∷ []) ≡ record { events = (course limits p xs).events ++ events_at here l; place = behind here l; fault = None }
+      course limits p (xs ++ l ∷ []) ≡ record { events = (course limits p xs).events ++ events_at here l; place = place_behind here l; fault = None }
   course-next h =
       with_fault None h
-      ∙ ap (λ (e : List Lined). record { events = (course limits p xs).events ++ e; place = behind here l; fault = None }) (append-nil (events_at here l))
+      ∙ ap (λ (e : List Lined). record { events = (course limits p xs).events ++ e; place = place_behind here l; fault = None }) (append-nil (events_at here l))
 
   -- one line more that is at fault
   pub course-fault : (w : Which) → fault_of limits here l ≡ Some w →

@@ -6,10 +6,10 @@ use Rattle.sx_tree.specs.Tree.{TreeEvent}
 use Rattle.sx_tree.specs.declared.events.Event.TheVariants as event
 use Rattle.sx_esis.specs.declared.reader.LineReader.{LineReader}
 use Rattle.sx_events.specs.Course.{Lined, Course, course_of, reading, looked_at, is_beyond, run_in, run_of, closing, fault_next, break_of, events_of}
-use Rattle.sx_events.specs.Pending.{held, held_in, IsKnownIn, IsIdle, AreKnown, Pends, one_of, count_held}
+use Rattle.sx_events.specs.Pending.{held, held_in, IsKnownIn, IsIdle, AreKnownWaiting, Pends, one_of, count_held}
 use Rattle.sx_events.specs.Place.{Place, beginning, end_fault}
-use Rattle.sx_events.specs.Reader.{Along, TookAll, Broke, EndsWell, Going, StandsAt, GaveAll, Rests}
-use Rattle.sx_events.specs.Standing.{Flushed, count}
+use Rattle.sx_events.specs.Reader.{Along, TookAll, Broke, EndsWell, Going, StandsAt, GaveAllEvents, Rests}
+use Rattle.sx_events.specs.Standing.{Flushed, events_in}
 use Rattle.sx_events.specs.declared.event_reader.Ending.{Ending}
 use Rattle.sx_events.specs.declared.event_reader.EventReader.{EventReader}
 use Rattle.sx_limits.specs.declared.faults.DocFault.{DocFault}
@@ -36,14 +36,14 @@ module _ (r : LineReader) (s : Standing) (p : Pending) (limits : Limits) (names 
 
   -- the lines that were given are those of the place
   pub last_number : (n : ℕ) → n ≡ length (reading limits b ended).lines → n ≡ place.lines
-  last_number n is = let count = course-lines limits beginning (reading limits b ended).lines took.sound in omega (arith, count, is)
+  last_number n is = let events_in = course-lines limits beginning (reading limits b ended).lines took.sound in omega (arith, events_in, is)
 
   pub number_behind : (n number : ℕ) → n ≡ length (reading limits b ended).lines → number ≡ min (n + 1) (2 ^ 64 - 1) → number ≡ suc place.lines
   number_behind n number is one =
       let few = few_looked in
       let room = took.reads.room in
-      let count = last_number n is in
-      omega (arith, few, room, count, is, one)
+      let events_in = last_number n is in
+      omega (arith, few, room, events_in, is, one)
 
   broken_is : (beyond e : Bool) → is_beyond limits b ≡ beyond → ended ≡ e → break_of limits b ended ≡ broken_with None place None beyond e
   broken_is beyond e over told =
@@ -90,7 +90,7 @@ module _ (r : LineReader) (s : Standing) (p : Pending) (limits : Limits) (names 
     pends = took.pends;
   }
 
-  pub gave_all : IsIdle p → is_beyond limits b ≡ false → ended ≡ false → GaveAll limits b ended given
+  pub gave_all : IsIdle p → is_beyond limits b ≡ false → ended ≡ false → GaveAllEvents limits b ended given
   gave_all idle within told =
       let none = goes_on within told in
       let events : events_of limits b ended ≡ (course_of limits b ended).events = ap₂ (λ (o : Option DocFault) (e : Bool). events_with (course_of limits b ended) o e) none told ∙ append-nil (course_of limits b ended).events in
@@ -99,14 +99,14 @@ module _ (r : LineReader) (s : Standing) (p : Pending) (limits : Limits) (names 
 
 -- ---- what stands where the run of text has been put behind what was given
 
-run_known : (names : NameTable) (old new : Standing) (p q : Pending) → Flushed old new q.text → IsIdle p → q.event ≡ p.event → (held names q ≡ run_in old.run.text old.run.line) × AreKnown names q
+run_known : (names : NameTable) (old new : Standing) (p q : Pending) → Flushed old new q.text → IsIdle p → q.event ≡ p.event → (held names q ≡ run_in old.run.text old.run.line) × AreKnownWaiting names q
 run_known names old new p q flushed idle same =
     let none = same ∙ idle.event in (
       ap₂ (λ (x : List Lined) (o : Option Waiting). x ++ held_in names o) (flushed.waits names).0 none ∙ append-nil (run_in old.run.text old.run.line),
       record { text = (flushed.waits names).1; event = subst (IsKnownIn names) (sym none) tt },
     )
 
-pends_with : (p q : Pending) (names : NameTable) (events here : List Lined) (given line : ℕ) → IsIdle p → held names q ≡ here → AreKnown names q →
+pends_with : (p q : Pending) (names : NameTable) (events here : List Lined) (given line : ℕ) → IsIdle p → held names q ≡ here → AreKnownWaiting names q →
     Pends p names events given line → Pends q names (events ++ here) given line
 pends_with p q names events here given line idle is known pends = record {
   front = pends.front;
@@ -139,14 +139,14 @@ module _ (old new : Standing) (p q : Pending) (limits : Limits) (names : NameTab
 
 module _ (old new : Standing) (p q : Pending) where
   -- no more waits than waited and began
-  pub count_flushed : Flushed old new q.text → q.event ≡ p.event → count_held q ≤ count old.run p
+  pub count_flushed : Flushed old new q.text → q.event ≡ p.event → count_held q ≤ events_in old.run p
   count_flushed flushed same =
       let counted = flushed_count old new q.text flushed in
       let text = counted.0 in
       let event : one_of q.event ≡ one_of p.event = ap one_of same in
       omega (arith, text, event)
 
-  pub count_put : (e : Waiting) → Flushed old new q.text → q.event ≡ Some e → count_held q ≤ count old.run p + 1
+  pub count_put : (e : Waiting) → Flushed old new q.text → q.event ≡ Some e → count_held q ≤ events_in old.run p + 1
   count_put e flushed is =
       let counted = flushed_count old new q.text flushed in
       let text = counted.0 in
@@ -162,7 +162,7 @@ module _ (r : EventReader) (limits : Limits) (names : NameTable) (b : List ℕ) 
   }
 
   -- it is not known yet
-  pub rests_going : r.ending ≡ None → Going r limits names b ended given → (IsIdle r.pending → GaveAll limits b ended given) → Rests r limits names b ended given
+  pub rests_going : r.ending ≡ None → Going r limits names b ended given → (IsIdle r.pending → GaveAllEvents limits b ended given) → Rests r limits names b ended given
   rests_going none going idle = record {
     stands = subst (λ (o : Option Ending). StandsAt o r limits names b ended given) (sym none) going;
     idle = λ quiet _. idle quiet;

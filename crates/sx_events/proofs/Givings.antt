@@ -2,7 +2,7 @@
 use Rattle.std.proofs.Common.{◌≡◌, ℕ, suc, List, [], ◌∷◌, ◌++◌, length, slice_get, Option, Some, None, IfSome, refl, ap, ap₂, sym, ◌∙◌, subst, arith, append_assoc, length-append}
 use Rattle.sx_named.specs.Named.{IsKnown}
 use Rattle.sx_events.specs.Course.{Lined, whats, line_behind}
-use Rattle.sx_events.specs.Pending.{lined, held, held_in, IsKnownIn, AreKnown, Pends, GivesNext}
+use Rattle.sx_events.specs.Pending.{lined, held, held_in, IsKnownIn, AreKnownWaiting, Pends, GivesWaiting}
 use Rattle.sx_events.specs.declared.pending.Pending.{Pending}
 use Rattle.sx_events.specs.declared.pending.Waiting.{Waiting}
 use Rattle.sx_names.specs.Numbering.{NameTable}
@@ -25,7 +25,7 @@ front_line (x ∷ []) ys = refl
 front_line (x ∷ z ∷ xs) ys = front_line (z ∷ xs) ys
 
 module _ (old new : Pending) (names : NameTable) (events : List Lined) (given line : ℕ) (pends : Pends old names events given line) where
-  gives_first : (w : Waiting) → held names old ≡ lined names w ∷ held names new → IsKnown names w.event → AreKnown names new → GivesNext new names events given w
+  gives_first : (w : Waiting) → held names old ≡ lined names w ∷ held names new → IsKnown names w.event → AreKnownWaiting names new → GivesWaiting new names events given w
   gives_first w first known rest =
       let whole : events ≡ pends.front ++ lined names w ∷ held names new = pends.splits ∙ ap (λ (x : List Lined). pends.front ++ x) first in
       let number = pends.number in
@@ -44,7 +44,7 @@ module _ (old new : Pending) (names : NameTable) (events : List Lined) (given li
       }
 
   -- the text
-  pub gives_text : (w : Waiting) → old.text ≡ Some w → new.text ≡ None → new.event ≡ old.event → GivesNext new names events given w
+  pub gives_text : (w : Waiting) → old.text ≡ Some w → new.text ≡ None → new.event ≡ old.event → GivesWaiting new names events given w
   gives_text w was now same =
       gives_first w
       (ap (λ (o : Option Waiting). held_in names o ++ held_in names old.event) was ∙ ap₂ (λ (o q : Option Waiting). lined names w ∷ held_in names o ++ held_in names q) (sym now) (sym same))
@@ -52,7 +52,7 @@ module _ (old new : Pending) (names : NameTable) (events : List Lined) (given li
       (record { text = subst (IsKnownIn names) (sym now) tt; event = subst (IsKnownIn names) (sym same) pends.known.event })
 
   -- the event, where no text waits
-  pub gives_event : (w : Waiting) → old.text ≡ None → old.event ≡ Some w → new.text ≡ None → new.event ≡ None → GivesNext new names events given w
+  pub gives_event : (w : Waiting) → old.text ≡ None → old.event ≡ Some w → new.text ≡ None → new.event ≡ None → GivesWaiting new names events given w
   gives_event w none was text event =
       gives_first w
       (ap₂ (λ (o q : Option Waiting). held_in names o ++ held_in names q) none was ∙ ap₂ (λ (o q : Option Waiting). lined names w ∷ held_in names o ++ held_in names q) (sym text) (sym event))
@@ -60,6 +60,6 @@ module _ (old new : Pending) (names : NameTable) (events : List Lined) (given li
       (record { text = subst (IsKnownIn names) (sym text) tt; event = subst (IsKnownIn names) (sym event) tt })
 
 pub gives_last : (old new : Pending) (o : Option Waiting) → old.text ≡ None → old.event ≡ o → new.text ≡ None → new.event ≡ None →
-    IfSome o (λ first. (names : NameTable) (events : List Lined) (given line : ℕ) → Pends old names events given line → GivesNext new names events given first)
+    IfSome o (λ first. (names : NameTable) (events : List Lined) (given line : ℕ) → Pends old names events given line → GivesWaiting new names events given first)
 gives_last old new None none was text event = tt
 gives_last old new (Some w) none was text event = λ names events given line pends. gives_event old new names events given line pends w none was text event

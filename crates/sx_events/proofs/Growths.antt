@@ -7,7 +7,7 @@ use Rattle.sx_named.specs.Named.{ElementStart, in_tree, all_in_tree}
 use Rattle.std.proofs.lemmas.List.{map-append}
 use Rattle.sx_tree.specs.Tree.{TreeEvent}
 use Rattle.sx_events.specs.Course.{Lined, Course, course, course_of, reading, is_beyond, or_else, last_fault, last_events, run_of, break_of, events_of, whats, put_events}
-use Rattle.sx_events.specs.Laws.{Grows, StaysBroken}
+use Rattle.sx_events.specs.Laws.{EventsGrow, StaysBroken}
 use Rattle.sx_events.specs.Place.{Place, beginning}
 use Rattle.sx_limits.specs.declared.faults.DocFault.{DocFault}
 use Rattle.sx_limits.specs.declared.limits.Limits.{Limits}
@@ -146,7 +146,7 @@ module _ (limits : Limits) (b d : List ℕ) (ended : Bool) where
   pub broken_stays : (g : DocFault) → break_of limits b false ≡ Some g → StaysBroken limits b d ended g
   broken_stays g h = stays_by g h (cause old.fault (reading limits b false).fault (is_beyond limits b) refl refl refl g h)
 
-  grown : (more : List Lined) → events_of limits (b ++ d) ended ≡ events_of limits b false ++ more → Grows limits b d ended
+  grown : (more : List Lined) → events_of limits (b ++ d) ended ≡ events_of limits b false ++ more → EventsGrow limits b d ended
   grown more is =
       let read = ap whats is ∙ whats-append (events_of limits b false) more in
       record {
@@ -161,10 +161,10 @@ module _ (limits : Limits) (b d : List ℕ) (ended : Bool) where
   no_fault (Some x) p f beyond at_end h = absurd (cc)
 
   -- more bytes only add events
-  pub grows : Grows limits b d ended
+  pub grows : EventsGrow limits b d ended
   grows = by (break_of limits b false) refl
     where
-      by : (o : Option DocFault) → break_of limits b false ≡ o → Grows limits b d ended
+      by : (o : Option DocFault) → break_of limits b false ≡ o → EventsGrow limits b d ended
       by (Some g) h = grown [] ((broken_stays g h).events ∙ sym (append-nil (events_of limits b false)))
       by None h =
           let sound : old.fault ≡ None = no_fault old.fault old.place (reading limits b false).fault (is_beyond limits b) false h in

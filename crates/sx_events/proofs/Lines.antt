@@ -1,14 +1,14 @@
--- What a reader stands for behind one line more.
+-- What a reader stands for place_behind one line more.
 use Rattle.std.proofs.Common.{◌≡◌, ℕ, suc, ◌+◌, ◌-◌, ◌<◌, ◌^◌, min, Bool, List, [], ◌∷◌, ◌++◌, length, slice_get, Option, Some, None, ap, ap₂, sym, ◌∙◌, subst, arith, append_assoc, append-nil, length-append}
-use Rattle.sx_esis.specs.Gives.{GivesFault, GaveAll}
+use Rattle.sx_esis.specs.Gives.{GivesFault, GaveAllLines}
 use Rattle.sx_esis.specs.Lines as esis
 use Rattle.sx_esis.specs.Lines.{Line, Reading}
 use Rattle.sx_esis.specs.declared.faults.LineFault.{LineFault}
 use Rattle.sx_esis.specs.declared.faults.LineWhich.{LineWhich}
 use Rattle.sx_esis.specs.declared.reader.LineReader.{LineReader}
 use Rattle.sx_names.specs.Numbering.{NameTable, KeepsPlaces}
-use Rattle.sx_events.specs.Course.{Lined, Course, course, course_of, events_at, behind, by_fault, fault_next, put_events, reading, looked_at, is_beyond, run_in, run_of, which_of}
-use Rattle.sx_events.specs.Pending.{held, held_in, IsIdle, AreKnown, Pends}
+use Rattle.sx_events.specs.Course.{Lined, Course, course, course_of, events_at, place_behind, by_fault, fault_next, put_events, reading, looked_at, is_beyond, run_in, run_of, which_of}
+use Rattle.sx_events.specs.Pending.{held, held_in, IsIdle, AreKnownWaiting, Pends}
 use Rattle.sx_events.specs.Place.{Place, beginning, fault_of}
 use Rattle.sx_events.specs.Reader.{TakesLines, Along, TookAll, Broke}
 use Rattle.sx_events.specs.Standing.{Knows, Took}
@@ -24,14 +24,14 @@ use Rattle.sx_events.proofs.Growths.{course_front, broken_with}
 use Rattle.sx_events.proofs.Looks.{looked-length}
 use Rattle.sx_events.proofs.Namings.{pends_stay}
 
--- where all were counted, nothing comes behind
+-- where all were counted, nothing comes place_behind
 front_all : (lines front more : List Line) → lines ≡ front ++ more → length front ≡ length lines → front ≡ lines
 front_all lines front [] is same = sym (is ∙ append-nil front)
 front_all lines front (x ∷ more) is same =
     let count = ap (λ (ls : List Line). length ls) is in
     absurd (omega (arith, count, same, length-append front (x ∷ more)))
 
--- the line behind others
+-- the line place_behind others
 front_next : (front more : List Line) (l : Line) → slice_get (front ++ more) (length front) ≡ Some l → (rest : List Line) × (more ≡ l ∷ rest)
 front_next [] [] l h = absurd (cc)
 front_next [] (x ∷ more) l h = (more, cc)
@@ -41,7 +41,7 @@ pub held_none : (names : NameTable) (p : Pending) → IsIdle p → held names p 
 held_none names p idle = ap₂ (λ (x y : Option Waiting). held_in names x ++ held_in names y) idle.text idle.event
 
 -- where nothing waited, what waits now are the events that came
-pends_more : (old new : Pending) (names more : NameTable) (events here : List Lined) (given line : ℕ) → IsIdle old → held more new ≡ here → AreKnown more new →
+pends_more : (old new : Pending) (names more : NameTable) (events here : List Lined) (given line : ℕ) → IsIdle old → held more new ≡ here → AreKnownWaiting more new →
     Pends old names events given line → Pends new more (events ++ here) given line
 pends_more old new names more events here given line idle is known pends = record {
   front = pends.front;
@@ -74,7 +74,7 @@ module _ (r : LineReader) (s : Standing) (p : Pending) (limits : Limits) (names 
   all_front same = front_all (reading limits b ended).lines front along.more along.lines same
 
   -- all lines were taken
-  pub took_all : (new : LineReader) → GaveAll (reading limits b ended) (length front) → TakesLines new limits b ended (length front) → TookAll new s p limits names b ended given line
+  pub took_all : (new : LineReader) → GaveAllLines (reading limits b ended) (length front) → TakesLines new limits b ended (length front) → TookAll new s p limits names b ended given line
   took_all new gave reads =
       let all = all_front gave.all in
       record {
@@ -132,7 +132,7 @@ module _ (r : LineReader) (s : Standing) (p : Pending) (limits : Limits) (names 
         let c = course limits beginning front in
         course_front limits b ended front along.more along.lines along.sound
         ∙ ap (λ (ls : List Line). put_events c.events (course limits place ls)) rest.1
-        ∙ ap (λ (f : Option Which). put_events c.events (by_fault place f (put_events (events_at place l) (course limits (behind place l) rest.0)))) at_fault
+        ∙ ap (λ (f : Option Which). put_events c.events (by_fault place f (put_events (events_at place l) (course limits (place_behind place l) rest.0)))) at_fault
         ∙ ap (λ (es : List Lined). record { events = es; place = place; fault = Some (fault_next place w) }) (append-nil c.events)
 
     -- one line more is at fault

@@ -10,7 +10,7 @@ use Rattle.sx_tree.specs.declared.events.Event.{Event}
 use Rattle.sx_tree.specs.declared.events.Event.TheVariants as event
 use Rattle.sx_tree.specs.declared.events.Label.{Label}
 use Rattle.sx_events.specs.Course.{Lined}
-use Rattle.sx_events.specs.Pending.{held_in, held, IsKnownIn, AreKnown, Pends}
+use Rattle.sx_events.specs.Pending.{held_in, held, IsKnownIn, AreKnownWaiting, Pends}
 use Rattle.sx_events.specs.Place.{Written, all_bound, attributes_in, is_bound_prefix, is_empty, attribute_name}
 use Rattle.sx_events.specs.Starting.{IsLabelOf, AreAttributesOf}
 use Rattle.sx_events.specs.declared.pending.Pending.{Pending}
@@ -65,7 +65,7 @@ module _ (old new : NameTable) (kept : KeepsPlaces old new) where
       let more = named_stays w.event h in
       (ap (λ (what : TreeEvent ElementStart). record { what = what; line = w.line } ∷ []) more.0, more.1)
 
-  pub held_stays : (p : Pending) → AreKnown old p → (held new p ≡ held old p) × AreKnown new p
+  pub held_stays : (p : Pending) → AreKnownWaiting old p → (held new p ≡ held old p) × AreKnownWaiting new p
   held_stays p h =
       let text = held_in_stays p.text h.text in
       let event = held_in_stays p.event h.event in

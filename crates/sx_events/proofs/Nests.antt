@@ -4,13 +4,13 @@ use Rattle.std.proofs.lemmas.Bool.{false≢true, lt-ltb}
 use Rattle.sx_chars.specs.Names.{before_space, from_space, without_leading_space}
 use Rattle.sx_esis.specs.Lines as esis
 use Rattle.sx_esis.specs.Lines.{Line, starts, ends, has, lacks, says, instructs, skips, conforms}
-use Rattle.sx_tree.specs.Events.{is_text, ends_in_text}
+use Rattle.sx_tree.specs.Events.{is_text, is_behind_text}
 use Rattle.sx_named.specs.Named.{ElementStart}
 use Rattle.sx_tree.specs.Tree as tree
 use Rattle.sx_tree.specs.Tree.{TreeEvent, Forest, none, text, instruction, Document, has_open, open_elements, push_node, push_end, tree_of}
 use Rattle.sx_tree.proofs.Follow.{ends_in_text-snoc}
 use Rattle.sx_tree.proofs.Open.{tree_of-snoc, open-push_node, open-push_end, has_open-is, none_open, open-none}
-use Rattle.sx_events.specs.Course.{Lined, Course, course, course_of, reading, is_beyond, events_at, behind, by_fault, fault_next, put_events, rest_of, run_in, run_of, then_here, begun, instruction as instruction_of, last_events, closing, break_of, events_of, whats}
+use Rattle.sx_events.specs.Course.{Lined, Course, course, course_of, reading, is_beyond, events_at, place_behind, by_fault, fault_next, put_events, rest_of, run_in, run_of, then_here, element_begun, instruction as instruction_of, last_events, closing, break_of, events_of, whats}
 use Rattle.sx_events.specs.Laws.{AllFollow}
 use Rattle.sx_events.specs.Place.{Place, beginning, fault_of, is_root_closed, is_of_element, needs_root, may_follow_attributes, is_mismatch, own_fault, first_is, is_empty, end_fault}
 use Rattle.sx_limits.specs.declared.faults.DocFault.{DocFault}
@@ -32,7 +32,7 @@ pub record Nests (es : Events) (p : Place) : Type 0 where
   pub stage : Open es (length p.opened)
   pub loose : p.is_loose ≡ true → p.text ≡ []
   pub conformed : p.conformed ≡ true → p.text ≡ []
-  pub quiet : p.is_loose ≡ false → p.conformed ≡ false → ends_in_text es ≡ false
+  pub quiet : p.is_loose ≡ false → p.conformed ≡ false → is_behind_text es ≡ false
 
 after : (es : Events) (h : TreeEvent ElementStart) (n : ℕ) → (tree.push (tree_of es) h).is_open ≡ true → length (open_elements (tree.push (tree_of es) h).content) ≡ n → Open (es ++ h ∷ []) n
 after es h n going depth = record {
@@ -99,7 +99,7 @@ not_nil : (b : ℕ) (bs : List ℕ) → b ∷ bs ≢ []
 not_nil b bs h = cc
 
 -- the run of text may follow
-run_leads : (es : Events) (s : List ℕ) (line n : ℕ) → (s ≢ [] → ends_in_text es ≡ false) → Open es n → Leads es (whats (run_in s line)) n
+run_leads : (es : Events) (s : List ℕ) (line n : ℕ) → (s ≢ [] → is_behind_text es ≡ false) → Open es n → Leads es (whats (run_in s line)) n
 run_leads es [] line n quiet o = nothing es n o
 run_leads es (b ∷ bs) line n quiet o = record {
   follow = (record { not_closed = o.going; allowed = (not_nil b bs, quiet (not_nil b bs)) }, tt);
@@ -116,17 +116,17 @@ run_follows es p nests =
     (λ some. nests.quiet (not_true p.is_loose (λ h. some (nests.loose h))) (not_true p.conformed (λ h. some (nests.conformed h))))
     nests.stage
 
--- behind the run of text something else happens
+-- place_behind the run of text something else happens
 then_leads : (es : Events) (p : Place) (h : TreeEvent ElementStart) (m : ℕ) → Nests es p → ((fs : Events) → Open fs (length p.opened) → Leads fs (h ∷ []) m) → Leads es (whats (then_here p h)) m
 then_leads es p h m nests next =
     let r = run_follows es p nests in
     subst (λ (q : Events). Leads es q m) (sym (whats-append (run_of p) (record { what = h; line = suc p.lines } ∷ [])))
     (both es (whats (run_of p)) (h ∷ []) (length p.opened) m r (next (es ++ whats (run_of p)) r.stage))
 
-then_quiet : (es : Events) (p : Place) (h : TreeEvent ElementStart) → is_text h ≡ false → ends_in_text (es ++ whats (then_here p h)) ≡ false
+then_quiet : (es : Events) (p : Place) (h : TreeEvent ElementStart) → is_text h ≡ false → is_behind_text (es ++ whats (then_here p h)) ≡ false
 then_quiet es p h not_text =
-    ap (λ (q : Events). ends_in_text (es ++ q)) (whats-append (run_of p) (record { what = h; line = suc p.lines } ∷ []))
-    ∙ ap ends_in_text (sym (append_assoc es (whats (run_of p)) (h ∷ [])))
+    ap (λ (q : Events). is_behind_text (es ++ q)) (whats-append (run_of p) (record { what = h; line = suc p.lines } ∷ []))
+    ∙ ap is_behind_text (sym (append_assoc es (whats (run_of p)) (h ∷ [])))
     ∙ ends_in_text-snoc (es ++ whats (run_of p)) h ∙ not_text
 
 -- ---- a line that is not at fault
@@ -155,13 +155,13 @@ not_loose : (v : Bool) → (v && true) ≡ false → v ≡ false
 not_loose true h = absurd (false≢true (sym h))
 not_loose false h = refl
 
--- One line on: its events may follow, and the place behind it stands for them.
+-- One line on: its events may follow, and the place place_behind it stands for them.
 pub record Next (es more : Events) (p : Place) : Type 0 where
   pub follow : AllFollow es more
   pub nests : Nests (es ++ more) p
 
 next_of : (es more : Events) (n : ℕ) (p : Place) → Leads es more n → n ≡ length p.opened → (p.is_loose ≡ true → p.text ≡ []) → (p.conformed ≡ true → p.text ≡ []) →
-    (p.is_loose ≡ false → p.conformed ≡ false → ends_in_text (es ++ more) ≡ false) → Next es more p
+    (p.is_loose ≡ false → p.conformed ≡ false → is_behind_text (es ++ more) ≡ false) → Next es more p
 next_of es more n p leads is loose conformed quiet = record {
   follow = leads.follow;
   nests = record { stage = subst (Open (es ++ more)) is leads.stage; loose = loose; conformed = conformed; quiet = quiet };
@@ -184,33 +184,33 @@ still : (es : Events) (p : Place) → Nests es p → Nests (es ++ []) p
 still es p nests = subst (λ (q : Events). Nests q p) (sym (append-nil es)) nests
 
 module _ (limits : Limits) (es : Events) (p : Place) (nests : Nests es p) where
-  next_line : (l : Line) → Fits limits p l → Next es (whats (events_at p l)) (behind p l)
+  next_line : (l : Line) → Fits limits p l → Next es (whats (events_at p l)) (place_behind p l)
   next_line (starts name) fit =
-      next_of es (whats (events_at p (starts name))) (suc (length p.opened)) (behind p (starts name))
-      (then_leads es p (tree.starts (begun p name)) (suc (length p.opened)) nests (λ fs o. on_start fs (length p.opened) (begun p name) o))
-      refl (λ h. refl) (λ h. refl) (λ l c. then_quiet es p (tree.starts (begun p name)) refl)
+      next_of es (whats (events_at p (starts name))) (suc (length p.opened)) (place_behind p (starts name))
+      (then_leads es p (tree.starts (element_begun p name)) (suc (length p.opened)) nests (λ fs o. on_start fs (length p.opened) (element_begun p name) o))
+      refl (λ h. refl) (λ h. refl) (λ l c. then_quiet es p (tree.starts (element_begun p name)) refl)
   next_line (ends name) fit =
-      next_of es (whats (events_at p (ends name))) (length (rest_of p.opened)) (behind p (ends name))
+      next_of es (whats (events_at p (ends name))) (length (rest_of p.opened)) (place_behind p (ends name))
       (then_leads es p tree.ends (length (rest_of p.opened)) nests (on_end p.opened name fit.matches))
       refl (λ h. refl) (λ h. refl) (λ l c. then_quiet es p tree.ends refl)
   next_line (has name value) fit =
-      next_of es (whats (run_of p)) (length p.opened) (behind p (has name value)) (run_follows es p nests) refl (λ h. refl) (λ h. refl) (λ l c. absurd (false≢true (sym l)))
+      next_of es (whats (run_of p)) (length p.opened) (place_behind p (has name value)) (run_follows es p nests) refl (λ h. refl) (λ h. refl) (λ l c. absurd (false≢true (sym l)))
   next_line (lacks name) fit =
-      next_of es (whats (run_of p)) (length p.opened) (behind p (lacks name)) (run_follows es p nests) refl (λ h. refl) (λ h. refl) (λ l c. absurd (false≢true (sym l)))
+      next_of es (whats (run_of p)) (length p.opened) (place_behind p (lacks name)) (run_follows es p nests) refl (λ h. refl) (λ h. refl) (λ l c. absurd (false≢true (sym l)))
   next_line (says s) fit =
       let strict : p.is_loose ≡ false = not_loose p.is_loose fit.placed in
-      next_of es [] (length p.opened) (behind p (says s)) (nothing es (length p.opened) nests.stage) refl
+      next_of es [] (length p.opened) (place_behind p (says s)) (nothing es (length p.opened) nests.stage) refl
       (λ h. absurd (false≢true (sym strict ∙ h))) (λ h. absurd (false≢true (sym fit.going ∙ h)))
-      (λ l c. ap ends_in_text (append-nil es) ∙ nests.quiet l c)
+      (λ l c. ap is_behind_text (append-nil es) ∙ nests.quiet l c)
   next_line (instructs s) fit =
-      next_of es (whats (events_at p (instructs s))) (length p.opened) (behind p (instructs s))
+      next_of es (whats (events_at p (instructs s))) (length p.opened) (place_behind p (instructs s))
       (then_leads es p (instruction_of s) (length p.opened) nests (λ fs o. on_instruction fs (length p.opened) (before_space s) (without_leading_space (from_space s)) o))
       refl (λ h. refl) (λ h. refl) (λ l c. then_quiet es p (instruction_of s) refl)
   next_line skips fit =
-      next_of es [] (length p.opened) (behind p skips) (nothing es (length p.opened) nests.stage) refl nests.loose nests.conformed
-      (λ l c. ap ends_in_text (append-nil es) ∙ nests.quiet l c)
+      next_of es [] (length p.opened) (place_behind p skips) (nothing es (length p.opened) nests.stage) refl nests.loose nests.conformed
+      (λ l c. ap is_behind_text (append-nil es) ∙ nests.quiet l c)
   next_line conforms fit =
-      next_of es (whats (run_of p)) (length p.opened) (behind p conforms) (run_follows es p nests) refl (λ h. refl) (λ h. refl) (λ l c. absurd (false≢true (sym c)))
+      next_of es (whats (run_of p)) (length p.opened) (place_behind p conforms) (run_follows es p nests) refl (λ h. refl) (λ h. refl) (λ l c. absurd (false≢true (sym c)))
 
 chain : (es xs ys : Events) (p q : Place) → Next es xs p → Next (es ++ xs) ys q → Next es (xs ++ ys) q
 chain es xs ys p q a b = record {
@@ -231,8 +231,8 @@ course_step None es p here c nests more =
 pub course_follows : (limits : Limits) (p : Place) (ls : List Line) (es : Events) → Nests es p → Next es (whats (course limits p ls).events) (course limits p ls).place
 course_follows limits p [] es nests = record { follow = tt; nests = still es p nests }
 course_follows limits p (l ∷ ls) es nests =
-    course_step (fault_of limits p l) es p (events_at p l) (course limits (behind p l) ls) nests
-    (λ h. (behind p l, next_line limits es p nests l (fits limits p l h), course_follows limits (behind p l) ls (es ++ whats (events_at p l))))
+    course_step (fault_of limits p l) es p (events_at p l) (course limits (place_behind p l) ls) nests
+    (λ h. (place_behind p l, next_line limits es p nests l (fits limits p l h), course_follows limits (place_behind p l) ls (es ++ whats (events_at p l))))
 
 at_beginning : Nests [] beginning
 at_beginning = record { stage = record { going = refl; depth = refl }; loose = λ h. refl; conformed = λ h. refl; quiet = λ l c. refl }
@@ -264,7 +264,7 @@ module _ (limits : Limits) (b : List ℕ) (ended : Bool) where
   before : Next [] (whats c.events) c.place
   before = course_follows limits beginning (reading limits b ended).lines [] at_beginning
 
-  -- behind the run of text
+  -- place_behind the run of text
   after_run : Leads (whats c.events) (whats (run_of c.place)) (length c.place.opened)
   after_run = run_follows (whats c.events) c.place before.nests
 
@@ -291,12 +291,12 @@ module _ (limits : Limits) (b : List ℕ) (ended : Bool) where
   none_is None h = refl
   none_is (Some x) h = absurd (false≢true (sym h))
 
-  ends_well : is_some (break_of limits b ended) ≡ false → ended ≡ true → end_fault c.place ≡ None
+  pub ends_well : is_some (break_of limits b ended) ≡ false → ended ≡ true → end_fault c.place ≡ None
   ends_well sound told =
       sound_end c.fault c.place (reading limits b ended).fault (is_beyond limits b)
       (ap (broken_with c.fault c.place (reading limits b ended).fault (is_beyond limits b)) (sym told) ∙ none_is (break_of limits b ended) sound)
 
-  -- each event may happen behind those before it
+  -- each event may happen place_behind those before it
   pub all_follow : AllFollow [] (whats (events_of limits b ended))
   all_follow =
       subst (AllFollow []) (sym (all_events (is_some (break_of limits b ended)) ended))

@@ -4,7 +4,7 @@ use Rattle.std.proofs.lemmas.Bool.{lt-ltb, le-ltb, leb-true, leb-false}
 use Rattle.std.proofs.lemmas.List.{take_more}
 use Rattle.sx_tree.specs.declared.events.Space.{Space}
 use Rattle.sx_events.specs.Place.{declared_behind}
-use Rattle.sx_events.specs.Standing.{AreNames}
+use Rattle.sx_events.specs.Standing.{AreOpenNames}
 use Rattle.sx_names.specs.Scope.{Declarations}
 
 abbrev Declared : Type 0
@@ -21,7 +21,7 @@ declared_more ss i s within is =
     ∙ declared_behind-append [] (take i ss) s
 
 -- as many places as names
-pub names-length : (text starts : List ℕ) (names : List (List ℕ)) → AreNames text starts names → length starts ≡ length names
+pub names-length : (text starts : List ℕ) (names : List (List ℕ)) → AreOpenNames text starts names → length starts ≡ length names
 names-length text starts [] h = ap (λ (s : List ℕ). length s) h.1
 names-length text starts (name ∷ names) h =
     let more = names-length h.0 h.1 names h.4 in

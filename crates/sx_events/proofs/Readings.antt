@@ -5,9 +5,9 @@ use Rattle.sx_names.specs.Numbering.{NameTable, KeepsPlaces}
 use Rattle.sx_named.specs.Named.{ElementStart, named, IsKnown}
 use Rattle.sx_tree.specs.Tree.{TreeEvent}
 use Rattle.sx_events.specs.Course.{Lined, course, events_of, whats, line_behind}
-use Rattle.sx_events.specs.Pending.{held, IsIdle, Pends, GivesNext}
+use Rattle.sx_events.specs.Pending.{held, IsIdle, Pends, GivesWaiting}
 use Rattle.sx_events.specs.Place.{beginning}
-use Rattle.sx_events.specs.Reader.{Going, BrokenOff, Whole, StandsAt, EventsStand, Rests, Gives}
+use Rattle.sx_events.specs.Reader.{Going, BrokenOff, Whole, StandsAt, EventsStand, Rests, GivesEvent}
 use Rattle.sx_events.specs.declared.event_reader.Ending.{Ending}
 use Rattle.sx_events.specs.declared.event_reader.Ending.TheVariants as ending
 use Rattle.sx_events.specs.declared.event_reader.EventReader.{EventReader}
@@ -71,7 +71,7 @@ module _ (r : EventReader) (limits : Limits) (names : NameTable) (b : List ℕ) 
   pub rests_known : is_some r.ending ≡ true → EventsStand r limits names b ended given → Rests r limits names b ended given
   rests_known known s = record { stands = s; idle = λ idle none. absurd (false≢true (sym (ap is_some none) ∙ known)) }
 
-  module _ (p : Pending) (w : Waiting) (next : (events : List Lined) (line : ℕ) → Pends r.pending names events given line → GivesNext p names events given w) where
+  module _ (p : Pending) (w : Waiting) (next : (events : List Lined) (line : ℕ) → Pends r.pending names events given line → GivesWaiting p names events given w) where
     gives_at : (o : Option Ending) → StandsAt o r limits names b ended given →
         (slice_get (whats (events_of limits b ended)) given ≡ Some (named names w.event)) × IsKnown names w.event × StandsAt o (with_pending r p w.line) limits names b ended (suc given)
     gives_at None s =
@@ -94,23 +94,23 @@ module _ (r : EventReader) (limits : Limits) (names : NameTable) (b : List ℕ) 
         (g.next, g.known, record { told = s.told; whole = s.whole; pends = g.pends })
 
     -- an event that waited is given
-    pub gives_event : Rests r limits names b ended given → Gives limits names b ended given (with_pending r p w.line) (Some (Ok w.event))
+    pub gives_event : Rests r limits names b ended given → GivesEvent limits names b ended given (with_pending r p w.line) (Some (Ok w.event))
     gives_event rests = gives_at r.ending rests.stands
 
   -- nothing waits, and it is not known how the bytes end
-  pub gives_none : IsIdle r.pending → r.ending ≡ None → Rests r limits names b ended given → Gives limits names b ended given r None
+  pub gives_none : IsIdle r.pending → r.ending ≡ None → Rests r limits names b ended given → GivesEvent limits names b ended given r None
   gives_none idle none rests =
       let all = rests.idle idle none in
       (all.all, all.whole, rests.stands)
 
   -- nothing waits, and the bytes are broken off
-  pub gives_fault : (fault : DocFault) → IsIdle r.pending → r.ending ≡ Some (ending.Broken fault) → Rests r limits names b ended given → Gives limits names b ended given r (Some (Err fault))
+  pub gives_fault : (fault : DocFault) → IsIdle r.pending → r.ending ≡ Some (ending.Broken fault) → Rests r limits names b ended given → GivesEvent limits names b ended given r (Some (Err fault))
   gives_fault fault idle is rests =
       let s : BrokenOff r limits names b ended given fault = subst (λ (o : Option Ending). StandsAt o r limits names b ended given) is rests.stands in
       (gave_length r.pending names (events_of limits b ended) given r.line idle s.pends, s.broken, rests.stands)
 
   -- nothing waits, and the bytes have ended well
-  pub gives_nothing : IsIdle r.pending → r.ending ≡ Some ending.Whole → Rests r limits names b ended given → Gives limits names b ended given r None
+  pub gives_nothing : IsIdle r.pending → r.ending ≡ Some ending.Whole → Rests r limits names b ended given → GivesEvent limits names b ended given r None
   gives_nothing idle is rests =
       let s : Whole r limits names b ended given = subst (λ (o : Option Ending). StandsAt o r limits names b ended given) is rests.stands in
       (gave_length r.pending names (events_of limits b ended) given r.line idle s.pends, s.whole, rests.stands)

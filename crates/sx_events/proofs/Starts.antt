@@ -10,7 +10,7 @@ use Rattle.sx_tree.specs.Tree.{TreeEvent}
 use Rattle.sx_tree.specs.declared.events.Attr.{Attr}
 use Rattle.sx_tree.specs.declared.events.Label.{Label}
 use Rattle.sx_tree.specs.declared.events.Space.{Space}
-use Rattle.sx_events.specs.Course.{begun}
+use Rattle.sx_events.specs.Course.{element_begun}
 use Rattle.sx_events.specs.Place.{Place, Written, spaces_of, ordinary, scope_with, declares_twice, has_bad, most_open, start_fault, is_bound_prefix, all_bound, element_name, attributes_in, has_name, has_double}
 use Rattle.sx_events.specs.Starting.{IsLabelOf, AreAttributesOf, spaces_fault, has_number, has_double_number}
 use Rattle.sx_limits.specs.declared.faults.Which.TheVariants as which
@@ -93,7 +93,7 @@ module _ (limits : Limits) (p : Place) (name : List ℕ) (lines : List Written) 
       (ap spaces_fault (sym declared_are) ∙ spaces) room bound_here
       ∙ ap (λ (d : Bool). cond d (Some which.DoubleAttr) None) (ap has_double (sym attributes_here) ∙ sym (same_doubles with_attributes distinct attrs all.known) ∙ sym is)
 
-  pub event_is : tree.starts (record { name = name_at with_attributes label; attributes = attributes_at with_attributes attrs; spaces = declared }) ≡ tree.starts (begun p name)
+  pub event_is : tree.starts (record { name = name_at with_attributes label; attributes = attributes_at with_attributes attrs; spaces = declared }) ≡ tree.starts (element_begun p name)
   event_is =
       let stays = label_stays named with_attributes kept (element_name scope name) label it in
       ap₂ (λ (n : Name) (rest : List Attribute). tree.starts (record { name = n; attributes = rest; spaces = declared }))

@@ -7,8 +7,8 @@ use Rattle.sx_tree.specs.Tree.{TreeEvent}
 use Rattle.sx_tree.specs.declared.events.Event.{Event}
 use Rattle.sx_events.specs.Course.{Lined, run_in, run_of, then_here}
 use Rattle.sx_events.specs.Place.{Place, fault_of, is_root_closed, is_of_element, needs_root, may_follow_attributes}
-use Rattle.sx_events.specs.Pending.{held, held_in, IsKnownIn, AreKnown, one_of}
-use Rattle.sx_events.specs.Standing.{Holds, AreWaiting, Knows, Flushed, TakesHere, Takes, fault_here, place_fault, is_run, count}
+use Rattle.sx_events.specs.Pending.{held, held_in, IsKnownIn, AreKnownWaiting, one_of}
+use Rattle.sx_events.specs.Standing.{HoldsOpen, AreWaiting, Knows, Flushed, TakesHere, TakesLine, fault_at, place_fault, is_run, events_in}
 use Rattle.sx_limits.specs.declared.faults.Which.{Which}
 use Rattle.sx_limits.specs.declared.faults.Which.TheVariants as which
 use Rattle.sx_limits.specs.declared.limits.Limits.{Limits}
@@ -20,7 +20,7 @@ use Rattle.sx_names.specs.Numbering.{NameTable}
 
 -- All but the run of text is what is known at this place.
 pub record KnowsRest (s : Standing) (p : Place) : Type 0 where
-  pub opened : Holds s.elements p.opened
+  pub opened : HoldsOpen s.elements p.opened
   pub scope : s.elements.scope ≡ p.scope
   pub has_root : s.has_root ≡ p.has_root
   pub conformed : s.conformed ≡ p.conformed
@@ -52,7 +52,7 @@ module _ (names : NameTable) (old mid new : Standing) (after : Pending) (p : Pla
       )
 
   -- the run of text waits
-  pub flush_waits : after.event ≡ None → (held names after ≡ run_of p) × AreKnown names after
+  pub flush_waits : after.event ≡ None → (held names after ≡ run_of p) × AreKnownWaiting names after
   flush_waits none = (
     ap₂ (λ (x : List Lined) (o : Option Waiting). x ++ held_in names o) run_waits.0 none ∙ append-nil (run_of p),
     record { text = run_waits.1; event = subst (IsKnownIn names) (sym none) tt },
@@ -60,7 +60,7 @@ module _ (names : NameTable) (old mid new : Standing) (after : Pending) (p : Pla
 
   -- and behind it this event
   pub put_waits : (e : Event) (number : ℕ) (h : TreeEvent ElementStart) → after.event ≡ Some (record { event = e; line = number }) → number ≡ suc p.lines → named names e ≡ h → IsKnown names e →
-      (held names after ≡ then_here p h) × AreKnown names after
+      (held names after ≡ then_here p h) × AreKnownWaiting names after
   put_waits e number h is line what known = (
     ap₂ (λ (x : List Lined) (o : Option Waiting). x ++ held_in names o) run_waits.0 is
         ∙ ap₂ (λ (g : TreeEvent ElementStart) (n : ℕ). run_of p ++ record { what = g; line = n } ∷ []) what line,
@@ -79,7 +79,7 @@ pub flushed_count : (old new : Standing) (w : Option Waiting) → Flushed old ne
 flushed_count old new w flushed = (one_run w [] old.run.text old.run.line (flushed.waits []).0, ap is_run flushed.text)
 
 -- no more waits than one event more
-pub put_count : (old new : Standing) (before after : Pending) (e : Waiting) → Flushed old new after.text → after.event ≡ Some e → count new.run after ≤ count old.run before + 1
+pub put_count : (old new : Standing) (before after : Pending) (e : Waiting) → Flushed old new after.text → after.event ≡ Some e → events_in new.run after ≤ events_in old.run before + 1
 put_count old new before after e flushed is =
     let counted = flushed_count old new after.text flushed in
     let one : one_of after.event ≡ 1 = ap one_of is in
@@ -93,17 +93,17 @@ pub place_first : (limits : Limits) (p : Place) (l : Line) (w : Which) → place
 place_first limits p l w h = by (p.conformed || (is_root_closed p && is_of_element l)) (not p.has_root && needs_root l) (p.is_loose && not (may_follow_attributes l)) h
   where
     by : (a b c : Bool) → cond a (Some which.AfterRoot) (cond b (Some which.NoRoot) (cond c (Some which.LooseAttr) None)) ≡ Some w →
-        cond a (Some which.AfterRoot) (cond b (Some which.NoRoot) (cond c (Some which.LooseAttr) (fault_here limits p l))) ≡ Some w
+        cond a (Some which.AfterRoot) (cond b (Some which.NoRoot) (cond c (Some which.LooseAttr) (fault_at limits p l))) ≡ Some w
     by true b c e = e
     by false true c e = e
     by false false true e = e
     by false false false e = absurd (cc)
 
-pub fault_behind : (limits : Limits) (p : Place) (l : Line) → place_fault p l ≡ None → fault_of limits p l ≡ fault_here limits p l
+pub fault_behind : (limits : Limits) (p : Place) (l : Line) → place_fault p l ≡ None → fault_of limits p l ≡ fault_at limits p l
 fault_behind limits p l h = by (p.conformed || (is_root_closed p && is_of_element l)) (not p.has_root && needs_root l) (p.is_loose && not (may_follow_attributes l)) h
   where
     by : (a b c : Bool) → cond a (Some which.AfterRoot) (cond b (Some which.NoRoot) (cond c (Some which.LooseAttr) None)) ≡ None →
-        cond a (Some which.AfterRoot) (cond b (Some which.NoRoot) (cond c (Some which.LooseAttr) (fault_here limits p l))) ≡ fault_here limits p l
+        cond a (Some which.AfterRoot) (cond b (Some which.NoRoot) (cond c (Some which.LooseAttr) (fault_at limits p l))) ≡ fault_at limits p l
     by true b c e = absurd (cc)
     by false true c e = absurd (cc)
     by false false true e = absurd (cc)
@@ -130,7 +130,7 @@ no_fault false w h = refl
 module _ (limits : Limits) (line : Line) (number : ℕ) (names : NameTable) (old new : Standing) (before after : Pending)
     (may : (p : Place) → Knows old p → place_fault p line ≡ None) where
   -- a line that may stand there was taken
-  pub takes_it : (fault : Option Which) → TakesHere limits line number names old new before after fault → Takes limits line number names old new before after fault
+  pub takes_it : (fault : Option Which) → TakesHere limits line number names old new before after fault → TakesLine limits line number names old new before after fault
   takes_it None takes = λ p knows is idle.
       let here = may p knows in
       let took = takes p knows here is idle in
@@ -138,6 +138,6 @@ module _ (limits : Limits) (line : Line) (number : ℕ) (names : NameTable) (old
   takes_it (Some w) takes = ((λ p knows. fault_behind limits p line (may p knows) ∙ takes.0 p knows), takes.1, takes.2)
 
   pub takes_if : {E : Type 0} (done : Result (Option Which) E) → IfOk done (λ fault. TakesHere limits line number names old new before after fault) →
-      IfOk done (λ fault. Takes limits line number names old new before after fault)
+      IfOk done (λ fault. TakesLine limits line number names old new before after fault)
   takes_if (Ok fault) takes = takes_it fault takes
   takes_if (Err e) takes = tt

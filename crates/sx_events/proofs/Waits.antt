@@ -3,7 +3,7 @@ use Rattle.std.proofs.Common.{◌≡◌, ℕ, suc, ◌+◌, ◌-◌, Bool, true,
 use Rattle.std.proofs.lemmas.Bool.{lt-leb, le-leb, leb-true, leb-false}
 use Rattle.sx_tree.specs.declared.events.Space.{Space}
 use Rattle.sx_events.specs.Place.{Written, declared_prefix, put_space, spaces_of, ordinary}
-use Rattle.sx_events.specs.Standing.{AreWaiting, lines_of}
+use Rattle.sx_events.specs.Standing.{AreWaiting, attribute_lines_of}
 use Rattle.sx_events.specs.declared.attributes.Attributes.{Attributes}
 use Rattle.sx_events.proofs.Opens.{full}
 
@@ -41,7 +41,7 @@ ordinary-append (v ∷ ws) w =
 
 module _ (old new : Attributes) (ws : List Written) (w : Written) (wait : AreWaiting old ws) where
   -- a namespace declaration more
-  pub wait_space : (prefix : List ℕ) → Some prefix ≡ declared_prefix w.name → lines_of new ≡ lines_of old → new.spaces ≡ old.spaces ++ record { prefix = prefix; uri = w.value } ∷ [] →
+  pub wait_space : (prefix : List ℕ) → Some prefix ≡ declared_prefix w.name → attribute_lines_of new ≡ attribute_lines_of old → new.spaces ≡ old.spaces ++ record { prefix = prefix; uri = w.value } ∷ [] →
       AreWaiting new (ws ++ w ∷ [])
   wait_space prefix is same more = record {
     ordinary = same ∙ wait.ordinary ∙ sym (append-nil (ordinary ws)) ∙ ap (λ (o : Option (List ℕ)). ordinary ws ++ others o w []) is ∙ sym (ordinary-append ws w);
@@ -49,7 +49,7 @@ module _ (old new : Attributes) (ws : List Written) (w : Written) (wait : AreWai
   }
 
   -- another line more
-  pub wait_other : None ≡ declared_prefix w.name → lines_of new ≡ lines_of old ++ w ∷ [] → new.spaces ≡ old.spaces → AreWaiting new (ws ++ w ∷ [])
+  pub wait_other : None ≡ declared_prefix w.name → attribute_lines_of new ≡ attribute_lines_of old ++ w ∷ [] → new.spaces ≡ old.spaces → AreWaiting new (ws ++ w ∷ [])
   wait_other is more same = record {
     ordinary = more ∙ ap₂ (λ (xs : List Written) (o : Option (List ℕ)). xs ++ others o w []) wait.ordinary is ∙ sym (ordinary-append ws w);
     spaces = same ∙ wait.spaces ∙ sym (append-nil (spaces_of ws)) ∙ ap (λ (o : Option (List ℕ)). spaces_of ws ++ put_space o w.value []) is ∙ sym (spaces-append ws w);

@@ -29,13 +29,13 @@ run_in (b ∷ bs) line = record { what = tree.says (b ∷ bs); line = line } ∷
 abbrev pub run_of : Place → List Lined
 run_of p = run_in p.text p.text_line
 
--- behind the run of text this happens on the next line
+-- place_behind the run of text this happens on the next line
 abbrev pub then_here : Place → TreeEvent ElementStart → List Lined
 then_here p h = run_of p ++ record { what = h; line = suc p.lines } ∷ []
 
 -- the start of an element of this name
-abbrev pub begun : Place → List ℕ → ElementStart
-begun p name =
+abbrev pub element_begun : Place → List ℕ → ElementStart
+element_begun p name =
     let scope = scope_with p p.attributes in
     record { name = element_name scope name; attributes = attributes_in scope (ordinary p.attributes); spaces = spaces_of p.attributes }
 
@@ -45,7 +45,7 @@ instruction s = tree.instructs (before_space s) (without_leading_space (from_spa
 
 -- the events that the next line makes: the run of text before it, if it is no text and not skipped, and its own
 abbrev pub events_at : Place → Line → List Lined
-events_at p (starts name) = then_here p (tree.starts (begun p name))
+events_at p (starts name) = then_here p (tree.starts (element_begun p name))
 events_at p (ends name) = then_here p tree.ends
 events_at p (has name value) = run_of p
 events_at p (lacks name) = run_of p
@@ -72,9 +72,9 @@ abbrev pub rest_of : {X : Type 0} → List X → List X
 rest_of [] = []
 rest_of (x ∷ xs) = xs
 
--- what is known behind the next line, which is not at fault
-abbrev pub behind : Place → Line → Place
-behind p (starts name) = record {
+-- what is known place_behind the next line, which is not at fault
+abbrev pub place_behind : Place → Line → Place
+place_behind p (starts name) = record {
   lines = suc p.lines;
   opened = name ∷ p.opened;
   scope = scope_with p p.attributes;
@@ -85,10 +85,10 @@ behind p (starts name) = record {
   text = [];
   text_line = 0;
 }
-behind p (ends name) = onward p (rest_of p.opened) (rest_of p.scope) [] false
-behind p (has name value) = onward p p.opened p.scope (p.attributes ++ record { name = name; value = value } ∷ []) true
-behind p (lacks name) = onward p p.opened p.scope p.attributes true
-behind p (says s) = record {
+place_behind p (ends name) = onward p (rest_of p.opened) (rest_of p.scope) [] false
+place_behind p (has name value) = onward p p.opened p.scope (p.attributes ++ record { name = name; value = value } ∷ []) true
+place_behind p (lacks name) = onward p p.opened p.scope p.attributes true
+place_behind p (says s) = record {
   lines = suc p.lines;
   opened = p.opened;
   scope = p.scope;
@@ -99,8 +99,8 @@ behind p (says s) = record {
   text = p.text ++ s;
   text_line = suc p.lines;
 }
-behind p (instructs s) = onward p p.opened p.scope [] false
-behind p skips = record {
+place_behind p (instructs s) = onward p p.opened p.scope [] false
+place_behind p skips = record {
   lines = suc p.lines;
   opened = p.opened;
   scope = p.scope;
@@ -111,7 +111,7 @@ behind p skips = record {
   text = p.text;
   text_line = p.text_line;
 }
-behind p conforms = record {
+place_behind p conforms = record {
   lines = suc p.lines;
   opened = p.opened;
   scope = p.scope;
@@ -133,7 +133,7 @@ pub record Course : Type 0 where
 abbrev pub fault_next : Place → Which → DocFault
 fault_next p w = record { which = w; line = suc p.lines }
 
--- events in front of what comes behind them
+-- events in front of what comes place_behind them
 abbrev pub put_events : List Lined → Course → Course
 put_events events c = record { events = events ++ c.events; place = c.place; fault = c.fault }
 
@@ -145,7 +145,7 @@ by_fault p None c = c
 -- the course of lines that stand there
 abbrev pub course : Limits → Place → List Line → Course
 course limits p [] = record { events = []; place = p; fault = None }
-course limits p (line ∷ lines) = by_fault p (fault_of limits p line) (put_events (events_at p line) (course limits (behind p line) lines))
+course limits p (line ∷ lines) = by_fault p (fault_of limits p line) (put_events (events_at p line) (course limits (place_behind p line) lines))
 
 -- ---- from bytes
 
@@ -176,7 +176,7 @@ which_of in_line.Sdata = which.Sdata
 which_of in_line.Unsupported = which.Unsupported
 which_of in_line.Line = which.Line
 
--- what is wrong behind lines that are not at fault: the next line cannot be read; the byte that passes the limit; or the end
+-- what is wrong place_behind lines that are not at fault: the next line cannot be read; the byte that passes the limit; or the end
 abbrev pub last_fault : Place → Option esis.Fault → Bool → Bool → Option DocFault
 last_fault p (Some f) beyond ended = Some (record { which = which_of f.which; line = f.line })
 last_fault p None true ended = Some (fault_next p which.Bytes)

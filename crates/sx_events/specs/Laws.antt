@@ -7,13 +7,13 @@ use Rattle.sx_events.specs.Course.{Lined, whats, events_of, break_of}
 use Rattle.sx_limits.specs.declared.faults.DocFault.{DocFault}
 use Rattle.sx_limits.specs.declared.limits.Limits.{Limits}
 
--- the events of bytes, as a tree knows them
+-- the events of bytes, as a document_tree knows them
 abbrev pub tree_events_of : Limits → List ℕ → Bool → List (TreeEvent NamedElement)
 tree_events_of limits b ended = all_in_tree (whats (events_of limits b ended))
 
--- the tree of the events of bytes
-abbrev pub tree : Limits → List ℕ → Bool → Document NamedElement
-tree limits b ended = tree_of (tree_events_of limits b ended)
+-- the document_tree of the events of bytes
+abbrev pub document_tree : Limits → List ℕ → Bool → Document NamedElement
+document_tree limits b ended = tree_of (tree_events_of limits b ended)
 
 -- each of these may follow those before it
 abbrev pub AllFollow : {E : Type 0} → List (TreeEvent E) → List (TreeEvent E) → Type 0
@@ -21,7 +21,7 @@ AllFollow p [] = Unit {0}
 AllFollow p (h ∷ hs) = MayFollow p h × AllFollow (p ++ h ∷ []) hs
 
 -- More bytes only add events.
-pub record Grows (limits : Limits) (b d : List ℕ) (ended : Bool) : Type 0 where
+pub record EventsGrow (limits : Limits) (b d : List ℕ) (ended : Bool) : Type 0 where
   pub more : List Lined
   pub events : events_of limits (b ++ d) ended ≡ events_of limits b false ++ more
   pub read : whats (events_of limits (b ++ d) ended) ≡ whats (events_of limits b false) ++ whats more

@@ -25,7 +25,7 @@ IsKnownIn names None = Unit {0}
 IsKnownIn names (Some w) = IsKnown names w.event
 
 -- the table has the names in what waits
-pub record AreKnown (names : NameTable) (p : Pending) : Type 0 where
+pub record AreKnownWaiting (names : NameTable) (p : Pending) : Type 0 where
   pub text : IsKnownIn names p.text
   pub event : IsKnownIn names p.event
 
@@ -48,11 +48,11 @@ pub record Pends (p : Pending) (names : NameTable) (events : List Lined) (given 
   pub front : List Lined
   pub number : length front ≡ given
   pub splits : events ≡ front ++ held names p
-  pub known : AreKnown names p
+  pub known : AreKnownWaiting names p
   pub last : line ≡ line_behind front given
 
 -- The next of these events is this one, and the others wait.
-pub record GivesNext (new : Pending) (names : NameTable) (events : List Lined) (given : ℕ) (first : Waiting) : Type 0 where
+pub record GivesWaiting (new : Pending) (names : NameTable) (events : List Lined) (given : ℕ) (first : Waiting) : Type 0 where
   pub next : slice_get (whats events) given ≡ Some (named names first.event)
   pub known : IsKnown names first.event
   pub pends : Pends new names events (suc given) first.line

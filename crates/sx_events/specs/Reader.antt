@@ -8,7 +8,7 @@ use Rattle.sx_tree.specs.declared.events.Event.{Event}
 use Rattle.sx_events.specs.Course.{course, course_of, reading, looked_at, is_beyond, break_of, events_of, line_behind, run_in, run_of, whats}
 use Rattle.sx_events.specs.Place.{beginning}
 use Rattle.sx_events.specs.Pending.{Pends, IsIdle, count_held}
-use Rattle.sx_events.specs.Standing.{IsSmall, Knows, count}
+use Rattle.sx_events.specs.Standing.{IsSmall, Knows, events_in}
 use Rattle.sx_events.specs.declared.event_reader.Ending.{Ending}
 use Rattle.sx_events.specs.declared.event_reader.Ending.TheVariants as ending
 use Rattle.sx_events.specs.declared.event_reader.EventReader.{EventReader}
@@ -105,20 +105,20 @@ abbrev pub EventsStand : EventReader → Limits → NameTable → List ℕ → B
 EventsStand r limits names b ended given = StandsAt r.ending r limits names b ended given
 
 -- All events of the bytes were given, and they are not broken off.
-pub record GaveAll (limits : Limits) (b : List ℕ) (ended : Bool) (given : ℕ) : Type 0 where
+pub record GaveAllEvents (limits : Limits) (b : List ℕ) (ended : Bool) (given : ℕ) : Type 0 where
   pub all : given ≡ length (events_of limits b ended)
   pub whole : break_of limits b ended ≡ None
 
 -- The reader has read on: where nothing waits and it is not known how the bytes end, all was given.
 pub record Rests (r : EventReader) (limits : Limits) (names : NameTable) (b : List ℕ) (ended : Bool) (given : ℕ) : Type 0 where
   pub stands : EventsStand r limits names b ended given
-  pub idle : IsIdle r.pending → r.ending ≡ None → GaveAll limits b ended given
+  pub idle : IsIdle r.pending → r.ending ≡ None → GaveAllEvents limits b ended given
 
 -- The reader gave the event behind those given before, or all events were given, or behind them the bytes are broken off.
-abbrev pub Gives : Limits → NameTable → List ℕ → Bool → ℕ → EventReader → Option (Result Event DocFault) → Type 0
-Gives limits names b ended given new None = (given ≡ length (events_of limits b ended)) × (break_of limits b ended ≡ None) × EventsStand new limits names b ended given
-Gives limits names b ended given new (Some (Ok e)) = (slice_get (whats (events_of limits b ended)) given ≡ Some (named names e)) × IsKnown names e × EventsStand new limits names b ended (suc given)
-Gives limits names b ended given new (Some (Err fault)) = (given ≡ length (events_of limits b ended)) × (break_of limits b ended ≡ Some fault) × EventsStand new limits names b ended given
+abbrev pub GivesEvent : Limits → NameTable → List ℕ → Bool → ℕ → EventReader → Option (Result Event DocFault) → Type 0
+GivesEvent limits names b ended given new None = (given ≡ length (events_of limits b ended)) × (break_of limits b ended ≡ None) × EventsStand new limits names b ended given
+GivesEvent limits names b ended given new (Some (Ok e)) = (slice_get (whats (events_of limits b ended)) given ≡ Some (named names e)) × IsKnown names e × EventsStand new limits names b ended (suc given)
+GivesEvent limits names b ended given new (Some (Err fault)) = (given ≡ length (events_of limits b ended)) × (break_of limits b ended ≡ Some fault) × EventsStand new limits names b ended given
 
 -- an answer with an event for which something holds
 abbrev pub IfEvent : Option (Result Event DocFault) → (Event → Type 0) → Type 0
@@ -128,7 +128,7 @@ IfEvent (Some (Err fault)) P = Unit {0}
 
 -- of bytes, the run of text and events that wait, and the close
 abbrev pub left_at : Option Ending → ℕ → Run → Pending → ℕ
-left_at None unread run pending = suc (unread + count run pending)
+left_at None unread run pending = suc (unread + events_in run pending)
 left_at (Some e) unread run pending = count_held pending
 
 -- no fewer than the events that the reader can give of what it was fed
@@ -162,4 +162,4 @@ IsLastLine r line = (limits : Limits) (names : NameTable) (b : List ℕ) (ended 
 -- it gives this, where the names were in one table before and are in another now
 abbrev pub GivesNext : EventReader → EventReader → NameTable → NameTable → Option (Result Event DocFault) → Type 0
 GivesNext old new before after answer = (limits : Limits) (b : List ℕ) (ended : Bool) (given : ℕ) →
-    EventsStand old limits before b ended given → Gives limits after b ended given new answer
+    EventsStand old limits before b ended given → GivesEvent limits after b ended given new answer

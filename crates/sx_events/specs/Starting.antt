@@ -6,9 +6,9 @@ use Rattle.sx_tree.specs.declared.events.Attr.{Attr}
 use Rattle.sx_tree.specs.declared.events.Event.{Event}
 use Rattle.sx_tree.specs.declared.events.Label.{Label}
 use Rattle.sx_tree.specs.declared.events.Space.{Space}
-use Rattle.sx_events.specs.Course.{begun}
+use Rattle.sx_events.specs.Course.{element_begun}
 use Rattle.sx_events.specs.Place.{Place, scope_with, start_fault, declares_twice, has_bad}
-use Rattle.sx_events.specs.Standing.{Holds}
+use Rattle.sx_events.specs.Standing.{HoldsOpen}
 use Rattle.sx_events.specs.declared.elements.Elements.{Elements}
 use Rattle.sx_limits.specs.declared.faults.Which.{Which}
 use Rattle.sx_limits.specs.declared.faults.Which.TheVariants as which
@@ -40,8 +40,8 @@ has_double_number [] = false
 has_double_number (a ∷ rest) = has_number rest a.label.number || has_double_number rest
 
 -- the start of an element of this name, or what is at fault with it
-abbrev pub Begins : Limits → Place → List ℕ → NameTable → Elements → Result Event Which → Type 0
-Begins limits p name names new (Err w) = start_fault limits p name ≡ Some w
-Begins limits p name names new (Ok e) =
-    (start_fault limits p name ≡ None) × (named names e ≡ tree.starts (begun p name)) × IsKnown names e
-    × Holds new (name ∷ p.opened) × (new.scope ≡ scope_with p p.attributes)
+abbrev pub BeginsElement : Limits → Place → List ℕ → NameTable → Elements → Result Event Which → Type 0
+BeginsElement limits p name names new (Err w) = start_fault limits p name ≡ Some w
+BeginsElement limits p name names new (Ok e) =
+    (start_fault limits p name ≡ None) × (named names e ≡ tree.starts (element_begun p name)) × IsKnown names e
+    × HoldsOpen new (name ∷ p.opened) × (new.scope ≡ scope_with p p.attributes)

@@ -94,7 +94,7 @@ fn declared_prefix(name: &str) -> Option<&str>
 }
 
 impl Attributes {
-    ghost use Rattle.sx_events.specs.Standing.{AreWaiting, lines_of};
+    ghost use Rattle.sx_events.specs.Standing.{AreWaiting, attribute_lines_of};
 
     /// No attribute line.
     pub fn new(alloc: Global) -> Attributes
@@ -138,8 +138,8 @@ impl Attributes {
 
     // Puts a line that declares nothing behind those that wait, in the memory of one that waits no longer, if there is one.
     fn put(&mut self, alloc: Global, name: &str, value: Chars) -> Result<(), AllocError>
-        ensures lines { OnOk result (lines_of self.new
-            ≡ lines_of self.old ++ place.written name.now value ∷ []) }
+        ensures lines { OnOk result (attribute_lines_of self.new
+            ≡ attribute_lines_of self.old ++ place.written name.now value ∷ []) }
         ensures spaces { self.new.spaces ≡ self.old.spaces }
         ensures is_loose { self.new.is_loose ≡ self.old.is_loose }
     {

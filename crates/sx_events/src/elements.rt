@@ -27,11 +27,11 @@ impl Elements {
     ghost use Rattle.sx_tree.specs.declared.events.Space.{Space};
     ghost use Rattle.sx_events.specs.Course.{rest_of};
     ghost use Rattle.sx_events.specs.Place.{is_empty, first_is};
-    ghost use Rattle.sx_events.specs.Standing.{Holds};
+    ghost use Rattle.sx_events.specs.Standing.{HoldsOpen};
 
     /// No element is open.
     pub fn new(alloc: Global) -> Elements
-        ensures names { Holds result [] }
+        ensures names { HoldsOpen result [] }
         ensures scope { result.scope ≡ [] }
     {
         Elements {
@@ -43,14 +43,14 @@ impl Elements {
 
     /// Whether no element is open.
     pub fn is_empty(&self) -> bool
-        ensures { (names : List (List ℕ)) → Holds self.now names → result ≡ is_empty names }
+        ensures { (names : List (List ℕ)) → HoldsOpen self.now names → result ≡ is_empty names }
     {
         self.starts.is_empty()
     }
 
     /// Whether so many elements are open, or as many as there is room for.
     pub fn is_full(&self, depth: u64) -> bool
-        ensures is { (names : List (List ℕ)) → Holds self.now names
+        ensures is { (names : List (List ℕ)) → HoldsOpen self.now names
             → result ≡ not (nat_lt (length names) (min depth 200)) }
         ensures room { IsFalse result → length self.now.starts.items < 200 }
     {
@@ -79,8 +79,8 @@ impl Elements {
     pub fn push(&mut self, name: &str) -> Result<(), AllocError>
         requires room { length self.old.starts.items < 200 }
         requires entered { length self.old.starts.items < length self.old.scope }
-        ensures names { OnOk result ((names : List (List ℕ)) → Holds self.old names
-            → Holds self.new (name.now ∷ names)) }
+        ensures names { OnOk result ((names : List (List ℕ)) → HoldsOpen self.old names
+            → HoldsOpen self.new (name.now ∷ names)) }
         ensures scope { self.new.scope ≡ self.old.scope }
     {
         let start = self.text.len();
@@ -91,10 +91,10 @@ impl Elements {
 
     /// Ends the innermost open element, if it has this name, and says whether it has.
     pub fn end(&mut self, name: &str) -> bool
-        ensures is { (names : List (List ℕ)) → Holds self.old names
+        ensures is { (names : List (List ℕ)) → HoldsOpen self.old names
             → result ≡ first_is names name.now }
-        ensures names { IsTrue result → (names : List (List ℕ)) → Holds self.old names
-            → Holds self.new (rest_of names) }
+        ensures names { IsTrue result → (names : List (List ℕ)) → HoldsOpen self.old names
+            → HoldsOpen self.new (rest_of names) }
         ensures scope { IsTrue result → self.new.scope ≡ rest_of self.old.scope }
     {
         let Some(start) = self.starts.pop() else {

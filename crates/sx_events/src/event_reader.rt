@@ -4,11 +4,11 @@ ghost use Rattle.std.specs.Prelude.{List, ℕ, Bool, true, false, min, nat_lt, t
 ghost use Rattle.std.specs.Prelude.{OnErr, IsErr, None, length};
 ghost use Rattle.sx_names.specs.Numbering.{NameTable, IsDistinct, KeepsPlaces};
 ghost use Rattle.sx_events.specs.Course.{is_beyond, line_behind, looked_at, events_of};
-ghost use Rattle.sx_events.specs.Reader.{TookAll, Broke, EndsWell, Counted, EventsStand, Rests, Gives};
+ghost use Rattle.sx_events.specs.Reader.{TookAll, Broke, EndsWell, Counted, EventsStand, Rests, GivesEvent};
 ghost use Rattle.sx_events.specs.Reader.{GivesNext, IfEvent, IsLastLine, StandsStill, TakesBytes, TakesEnd};
 ghost use Rattle.sx_events.specs.Reader.{left, is_spent};
 ghost use Rattle.sx_events.specs.Pending.{IsIdle};
-ghost use Rattle.sx_events.specs.Standing.{count};
+ghost use Rattle.sx_events.specs.Standing.{events_in};
 
 use crate::pending::Pending;
 use crate::standing::Standing;
@@ -208,7 +208,7 @@ impl EventReader {
             self.old.line
             → Rests self.new limits names b ended given }
         ensures no_more { self.old.ending ≡ None → IsIdle self.old.pending → ¬ IsIdle self.new.pending
-            → left self.new ≤ count self.old.standing.run self.old.pending + 1 }
+            → left self.new ≤ events_in self.old.standing.run self.old.pending + 1 }
         ensures same { is_spent self.new ≡ is_spent self.old }
     {
         let line = self.lines.line();
@@ -235,7 +235,7 @@ impl EventReader {
         ensures rests { (limits : Limits) (names : NameTable) (b : List ℕ) (ended : Bool) (given : ℕ)
             → Broke self.old.standing self.old.pending limits names b ended given self.old.line fault
             → Rests self.new limits names b ended given }
-        ensures no_more { left self.new ≤ count self.old.standing.run self.old.pending }
+        ensures no_more { left self.new ≤ events_in self.old.standing.run self.old.pending }
         ensures same { is_spent self.new ≡ is_spent self.old }
     {
         self.standing.flush(&mut self.pending);
@@ -247,7 +247,7 @@ impl EventReader {
         ensures rests { (limits : Limits) (names : NameTable) (b : List ℕ) (ended : Bool) (given : ℕ)
             → EndsWell self.old.standing self.old.pending limits names b ended given self.old.line line
             → Rests self.new limits names b ended given }
-        ensures no_more { left self.new ≤ count self.old.standing.run self.old.pending + 1 }
+        ensures no_more { left self.new ≤ events_in self.old.standing.run self.old.pending + 1 }
         ensures same { is_spent self.new ≡ is_spent self.old }
     {
         self.standing.put(Event::Close, line, &mut self.pending);
@@ -258,7 +258,7 @@ impl EventReader {
     fn give(&mut self) -> Option<Result<Event, DocFault>>
         ensures gives { (limits : Limits) (names : NameTable) (b : List ℕ) (ended : Bool) (given : ℕ)
             → Rests self.old limits names b ended given
-            → Gives limits names b ended given self.new result }
+            → GivesEvent limits names b ended given self.new result }
         ensures waits { IfEvent result (λ _. ¬ IsIdle self.old.pending) }
         ensures fewer { IfEvent result (λ _. left self.new < left self.old) }
         ensures same { is_spent self.new ≡ is_spent self.old }

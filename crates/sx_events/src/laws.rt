@@ -3,13 +3,13 @@ ghost use Rattle.std.specs.Prelude.{◌≡◌, ◌≢◌, ◌<◌, ℕ, Bool, tr
 ghost use Rattle.std.specs.Prelude.{Some, None};
 ghost use Rattle.sx_tree.specs.Tree.{has_open};
 ghost use Rattle.sx_events.specs.Course.{break_of};
-ghost use Rattle.sx_events.specs.Laws.{AllFollow, Grows, StaysBroken, tree, tree_events_of};
+ghost use Rattle.sx_events.specs.Laws.{AllFollow, EventsGrow, StaysBroken, document_tree, tree_events_of};
 ghost use Rattle.sx_limits.specs.declared.faults.DocFault.{DocFault};
 ghost use Rattle.sx_limits.specs.declared.limits.Limits.{Limits};
 
 /// More bytes only add events, and where bytes are broken off more bytes change nothing.
 pub fn growth()
-    ensures grows { (limits : Limits) (b d : List ℕ) (ended : Bool) → Grows limits b d ended }
+    ensures grows { (limits : Limits) (b d : List ℕ) (ended : Bool) → EventsGrow limits b d ended }
     ensures broken { (limits : Limits) (b d : List ℕ) (ended : Bool) (fault : DocFault)
         → break_of limits b false ≡ Some fault → StaysBroken limits b d ended fault }
 {}
@@ -24,12 +24,12 @@ pub fn follow()
 /// than the limit are broken off.
 pub fn ending()
     ensures closed { (limits : Limits) (b : List ℕ) → break_of limits b true ≡ None
-        → (tree limits b true).is_open ≡ false }
+        → (document_tree limits b true).is_open ≡ false }
     ensures ended { (limits : Limits) (b : List ℕ) → break_of limits b true ≡ None
-        → has_open (tree limits b true).content ≡ false }
-    ensures going { (limits : Limits) (b : List ℕ) → (tree limits b false).is_open ≡ true }
+        → has_open (document_tree limits b true).content ≡ false }
+    ensures going { (limits : Limits) (b : List ℕ) → (document_tree limits b false).is_open ≡ true }
     ensures broken { (limits : Limits) (b : List ℕ) (ended : Bool) → break_of limits b ended ≢ None
-        → (tree limits b ended).is_open ≡ true }
+        → (document_tree limits b ended).is_open ≡ true }
     ensures bytes { (limits : Limits) (b : List ℕ) (ended : Bool) → limits.bytes < length b
         → break_of limits b ended ≢ None }
 {}

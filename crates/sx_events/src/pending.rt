@@ -1,7 +1,7 @@
 // The events that wait to be given.
 ghost use Rattle.std.specs.Prelude.{◌≡◌, ◌+◌, ℕ, List, IsTrue, ◌↔◌, None, IfSome, IfNone};
 ghost use Rattle.sx_events.specs.Course.{Lined};
-ghost use Rattle.sx_events.specs.Pending.{IsIdle, Pends, GivesNext, count_held};
+ghost use Rattle.sx_events.specs.Pending.{IsIdle, Pends, GivesWaiting, count_held};
 ghost use Rattle.sx_names.specs.Numbering.{NameTable};
 
 use sx_tree::Event;
@@ -43,7 +43,7 @@ impl Pending {
     /// Takes the event that waits longest.
     pub fn take_first(&mut self) -> Option<Waiting>
         ensures next { IfSome result (λ first. (names : NameTable) (events : List Lined) (given line : ℕ)
-            → Pends self.old names events given line → GivesNext self.new names events given first) }
+            → Pends self.old names events given line → GivesWaiting self.new names events given first) }
         ensures fewer { IfSome result (λ _. count_held self.new + 1 ≡ count_held self.old) }
         ensures nothing { IfNone result ((self.new ≡ self.old) × IsIdle self.old) }
     {

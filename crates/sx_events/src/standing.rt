@@ -9,7 +9,7 @@ ghost use Rattle.sx_events.specs.declared.pending.Pending.{Pending};
 ghost use Rattle.sx_limits.specs.declared.limits.Limits.{Limits};
 ghost use Rattle.sx_events.specs.Place.{Place, beginning, end_fault};
 ghost use Rattle.sx_events.specs.Place as place;
-ghost use Rattle.sx_events.specs.Standing.{Knows, Takes, TakesHere, Flushed, place_fault, count};
+ghost use Rattle.sx_events.specs.Standing.{Knows, TakesLine, TakesHere, Flushed, place_fault, events_in};
 
 use crate::attributes::Attributes;
 use crate::elements::Elements;
@@ -102,9 +102,10 @@ impl Standing {
         pending: &mut Pending,
     ) -> Result<Option<Which>, AllocError>
         ensures takes { IfOk result
-            (λ fault. Takes limits.now (view_line line.entry) number names.new self.old self.new pending.old
+            (λ fault. TakesLine limits.now (view_line line.entry) number names.new self.old self.new
+            pending.old
             pending.new fault) }
-        ensures one { count self.new.run pending.new ≤ count self.old.run pending.old + 1 }
+        ensures one { events_in self.new.run pending.new ≤ events_in self.old.run pending.old + 1 }
         ensures kept { KeepsPlaces names.old names.new }
         ensures distinct { IsDistinct names.old → IsDistinct names.new }
     {
@@ -152,7 +153,7 @@ impl Standing {
         ensures takes { IfOk result
             (λ fault. TakesHere limits.now (starts name.now) number names.new self.old self.new pending.old
             pending.new fault) }
-        ensures one { count self.new.run pending.new ≤ count self.old.run pending.old + 1 }
+        ensures one { events_in self.new.run pending.new ≤ events_in self.old.run pending.old + 1 }
         ensures kept { KeepsPlaces names.old names.new }
         ensures distinct { IsDistinct names.old → IsDistinct names.new }
     {
@@ -172,7 +173,7 @@ impl Standing {
         ensures takes { (limits : Limits) (names : NameTable)
             → TakesHere limits (ends name.now) number names self.old self.new pending.old pending.new
             result }
-        ensures one { count self.new.run pending.new ≤ count self.old.run pending.old + 1 }
+        ensures one { events_in self.new.run pending.new ≤ events_in self.old.run pending.old + 1 }
     {
         if !self.elements.end(name) {
             return Some(Which::EndMismatch);
@@ -192,7 +193,7 @@ impl Standing {
         ensures takes { (number : ℕ) (names : NameTable)
             → IfOk result (λ fault. TakesHere limits.now (has name.now value.now) number names self.old
             self.new pending.old pending.new fault) }
-        ensures one { count self.new.run pending.new ≤ count self.old.run pending.old + 1 }
+        ensures one { events_in self.new.run pending.new ≤ events_in self.old.run pending.old + 1 }
     {
         if self.attributes.is_full(limits.attrs) {
             return Ok(Some(Which::Attrs));
@@ -206,7 +207,7 @@ impl Standing {
     fn lack(&mut self, pending: &mut Pending) -> Option<Which>
         ensures takes { (limits : Limits) (name : List ℕ) (number : ℕ) (names : NameTable)
             → TakesHere limits (lacks name) number names self.old self.new pending.old pending.new result }
-        ensures one { count self.new.run pending.new ≤ count self.old.run pending.old + 1 }
+        ensures one { events_in self.new.run pending.new ≤ events_in self.old.run pending.old + 1 }
     {
         self.attributes.is_loose = true;
         self.flush(pending);
@@ -218,7 +219,8 @@ impl Standing {
         ensures takes { (names : NameTable) (pending : Pending)
             → IfOk result (λ fault. TakesHere limits.now (says text.now) number names self.old self.new
             pending pending fault) }
-        ensures one { (pending : Pending) → count self.new.run pending ≤ count self.old.run pending + 1 }
+        ensures one { (pending : Pending)
+            → events_in self.new.run pending ≤ events_in self.old.run pending + 1 }
     {
         let length = self.run.len() as u64;
         if length > limits.text_run || text.len() as u64 > limits.text_run - length {
@@ -238,7 +240,7 @@ impl Standing {
         ensures takes { (limits : Limits) (names : NameTable)
             → IfOk result (λ fault. TakesHere limits (instructs text.now) number names self.old self.new
             pending.old pending.new fault) }
-        ensures one { count self.new.run pending.new ≤ count self.old.run pending.old + 1 }
+        ensures one { events_in self.new.run pending.new ≤ events_in self.old.run pending.old + 1 }
     {
         let (target, content) = split_instruction(text);
         let target = Chars::copy(self.alloc, target)?;
@@ -251,7 +253,7 @@ impl Standing {
     fn conform(&mut self, pending: &mut Pending) -> Option<Which>
         ensures takes { (limits : Limits) (number : ℕ) (names : NameTable)
             → TakesHere limits conforms number names self.old self.new pending.old pending.new result }
-        ensures one { count self.new.run pending.new ≤ count self.old.run pending.old + 1 }
+        ensures one { events_in self.new.run pending.new ≤ events_in self.old.run pending.old + 1 }
     {
         if !self.elements.is_empty() {
             return Some(Which::EndMismatch);

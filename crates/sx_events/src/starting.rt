@@ -6,9 +6,9 @@ ghost use Rattle.sx_named.specs.Named.{Name, IsNumbered, AreNumbered, name_at, a
 ghost use Rattle.sx_chars.specs.Names.{prefix_of};
 ghost use Rattle.sx_events.specs.Place as place;
 ghost use Rattle.sx_events.specs.Place.{Place};
-ghost use Rattle.sx_events.specs.Standing.{Holds, AreWaiting};
-ghost use Rattle.sx_events.specs.Starting.{Begins, IsLabelOf, AreAttributesOf, spaces_fault, has_number};
-ghost use Rattle.sx_events.specs.Starting.{has_double_number};
+ghost use Rattle.sx_events.specs.Standing.{HoldsOpen, AreWaiting};
+ghost use Rattle.sx_events.specs.Starting.{BeginsElement, IsLabelOf, AreAttributesOf, spaces_fault};
+ghost use Rattle.sx_events.specs.Starting.{has_number, has_double_number};
 
 use crate::attributes::{Attributes, Written};
 use crate::elements::Elements;
@@ -221,9 +221,9 @@ pub(crate) fn begin(
     names: &mut Names,
     name: &str,
 ) -> Result<Result<Event, Which>, AllocError>
-    ensures begins { IfOk result (λ done. (p : Place) → Holds elements.old p.opened
+    ensures begins { IfOk result (λ done. (p : Place) → HoldsOpen elements.old p.opened
         → elements.old.scope ≡ p.scope → AreWaiting waiting.old p.attributes
-        → Begins limits.now p name.now names.new elements.new done) }
+        → BeginsElement limits.now p name.now names.new elements.new done) }
     ensures waits { AreWaiting waiting.new [] }
     ensures is_loose { waiting.new.is_loose ≡ false }
     ensures kept { KeepsPlaces names.old names.new }

@@ -4,7 +4,7 @@ ghost use Rattle.sx_esis.specs.LineReader.{unread};
 ghost use Rattle.sx_names.specs.Numbering.{IsDistinct, KeepsPlaces};
 ghost use Rattle.sx_events.specs.Course.{which_of};
 ghost use Rattle.sx_events.specs.Pending.{IsIdle};
-ghost use Rattle.sx_events.specs.Standing.{count};
+ghost use Rattle.sx_events.specs.Standing.{events_in};
 ghost use Rattle.sx_events.specs.Reader.{Along, AfterTaking, IsNoMore};
 ghost use Rattle.sx_events.specs.declared.taking.Taken.TheVariants as taken;
 
@@ -56,8 +56,8 @@ fn take_next(
     ensures fewer { IfOk result (λ done. done ≡ taken.Line → unread lines.new < unread lines.old) }
     ensures same { IfOk result (λ done. done ≡ taken.All → pending.new ≡ pending.old) }
     ensures no_more { IfOk result
-        (λ done. IsNoMore done (unread lines.old + count standing.old.run pending.old) (unread lines.new)
-        (count standing.new.run pending.new)) }
+        (λ done. IsNoMore done (unread lines.old + events_in standing.old.run pending.old) (unread lines.new)
+        (events_in standing.new.run pending.new)) }
     ensures kept { KeepsPlaces names.old names.new }
     ensures distinct { IsDistinct names.old → IsDistinct names.new }
 {
@@ -92,8 +92,8 @@ pub(crate) fn take_lines(
     ensures waits { IfOk result (λ done. done ≡ taken.Line → ¬ IsIdle pending.new) }
     ensures idle { IfOk result (λ done. done ≡ taken.All → IsIdle pending.new) }
     ensures no_more { IfOk result
-        (λ done. IsNoMore done (unread lines.old + count standing.old.run pending.old) (unread lines.new)
-        (count standing.new.run pending.new)) }
+        (λ done. IsNoMore done (unread lines.old + events_in standing.old.run pending.old) (unread lines.new)
+        (events_in standing.new.run pending.new)) }
     ensures kept { KeepsPlaces names.old names.new }
     ensures distinct { IsDistinct names.old → IsDistinct names.new }
 {

@@ -2,9 +2,9 @@
 use Rattle.std.proofs.Common.{◌≡◌, Bool, true, false, not, ◌||◌, List, [], ◌∷◌, ◌*ℤ◌, refl, ap, sym, ◌∙◌}
 use Rattle.sx_atoms.specs.Comparison as value
 use Rattle.sx_atoms.specs.Comparison.{Value, value_of}
-use Rattle.sx_atoms.specs.Numbers.{one}
+use Rattle.sx_atoms.specs.Numbers.{one_unit}
 use Rattle.sx_atoms.specs.declared.atoms.Atom.{Atom}
-use Rattle.sx_fn_seq.specs.Seeing.{same, Shows, Adds, has_value}
+use Rattle.sx_fn_seq.specs.Seeing.{same, Shows, AddsValue, has_value}
 use Rattle.sx_fn_seq.specs.declared.seen.Seen.{Seen}
 use Rattle.sx_fn_seq.proofs.Orders.{values_along}
 
@@ -30,13 +30,13 @@ seen_along (x ∷ xs) v w h e = by (same (value_of x) v) refl h (λ g. seen_alon
 shows_along : (s : Seen) (f g : Value → Bool) → ((v : Value) → f v ≡ g v) → Shows s f → Shows s g
 shows_along s f g e h = record {
   decimals = λ z k. h.decimals z k ∙ e (value.quantity z);
-  integers = λ n k. h.integers n k ∙ e (value.quantity (n *ℤ one));
+  integers = λ n k. h.integers n k ∙ e (value.quantity (n *ℤ one_unit));
   texts = λ k. h.texts k ∙ e (value.text k.now);
   truths = λ b. h.truths b ∙ e (value.truth b);
 }
 
 -- behind an item whose value is not new the same values were seen
-pub seen_still : (old new : Seen) (kept : List Atom) (a : Atom) (added : Bool) → Adds old new (value_of a) added → added ≡ false → Shows old (has_value kept)
+pub seen_still : (old new : Seen) (kept : List Atom) (a : Atom) (added : Bool) → AddsValue old new (value_of a) added → added ≡ false → Shows old (has_value kept)
     → Shows new (has_value kept)
 seen_still old new kept a added h e s = shows_along new _ (has_value kept) (λ w. old_value w (same (value_of a) w) refl) (h.shown (has_value kept) s)
   where

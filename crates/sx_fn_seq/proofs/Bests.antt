@@ -15,7 +15,7 @@ use Rattle.sx_atoms.specs.declared.comparison.CmpOp.TheVariants as op
 use Rattle.sx_atoms.specs.declared.error_codes.Code.{Code}
 use Rattle.sx_atoms.specs.declared.error_codes.Code.TheVariants as code
 use Rattle.sx_fn_seq.specs.Best.{better_of, best_from, best_of}
-use Rattle.sx_fn_seq.specs.Extremes.{is_text, compared_among, all_compared, first_unbeaten, extreme_of}
+use Rattle.sx_fn_seq.specs.Extremes.{is_text_atom, compared_among, all_compared, first_unbeaten, extreme_of}
 use Rattle.sx_fn_seq.specs.Order.{stands}
 use Rattle.sx_fn_seq.proofs.Orders.{IsOf, IsStrictAmong, less_among, greater_among}
 
@@ -194,19 +194,19 @@ strict_among t o h = elim h [
 -- the extreme is the best
 pub extreme_best : (o : CmpOp) → (o ≡ op.Lt) ⊎ (o ≡ op.Gt) → (item : Atom) (rest : List Atom)
     → extreme_of o (item ∷ rest) ≡ (best_of o item rest >>= (λ b. Ok (b ∷ [])))
-extreme_best o h item rest = by (compared_among (is_text item) item) refl
+extreme_best o h item rest = by (compared_among (is_text_atom item) item) refl
   where
-    by : (r : Result Atom Code) → compared_among (is_text item) item ≡ r
-        → ((r >>= (λ x. all_compared (is_text item) rest >>= (λ xs. Ok (x ∷ xs)))) >>= (λ xs. Ok (first_unbeaten o xs xs)))
-        ≡ ((r >>= (λ x. best_from o (is_text item) x rest)) >>= (λ b. Ok (b ∷ [])))
+    by : (r : Result Atom Code) → compared_among (is_text_atom item) item ≡ r
+        → ((r >>= (λ x. all_compared (is_text_atom item) rest >>= (λ xs. Ok (x ∷ xs)))) >>= (λ xs. Ok (first_unbeaten o xs xs)))
+        ≡ ((r >>= (λ x. best_from o (is_text_atom item) x rest)) >>= (λ b. Ok (b ∷ [])))
     by (Err e) f = refl
-    by (Ok x) f = then (all_compared (is_text item) rest) refl
-        ∙ ap (λ (q : Result Atom Code). q >>= (λ b. Ok (b ∷ []))) (sym (from_compared o (is_text item) x rest))
+    by (Ok x) f = then (all_compared (is_text_atom item) rest) refl
+        ∙ ap (λ (q : Result Atom Code). q >>= (λ b. Ok (b ∷ []))) (sym (from_compared o (is_text_atom item) x rest))
       where
-        then : (q : Result (List Atom) Code) → all_compared (is_text item) rest ≡ q
+        then : (q : Result (List Atom) Code) → all_compared (is_text_atom item) rest ≡ q
             → ((q >>= (λ xs. Ok (x ∷ xs))) >>= (λ xs. Ok (first_unbeaten o xs xs))) ≡ ((q >>= (λ xs. Ok (best_in o x xs))) >>= (λ b. Ok (b ∷ [])))
         then (Err e) g = refl
-        then (Ok xs) g = ap Ok (found (is_text item) o (strict_among (is_text item) o h) x xs (compared_of (is_text item) item x f) (all_compared_of (is_text item) rest xs g))
+        then (Ok xs) g = ap Ok (found (is_text_atom item) o (strict_among (is_text_atom item) o h) x xs (compared_of (is_text_atom item) item x f) (all_compared_of (is_text_atom item) rest xs g))
 
 -- the same of a list that is not empty
 pub extreme_some : (o : CmpOp) → (o ≡ op.Lt) ⊎ (o ≡ op.Gt) → (items : List Atom) (first : Atom) (r : Result Atom Code)
@@ -249,17 +249,17 @@ none_beats o (x ∷ xs) m h = by (stands o x m) refl h (λ g. none_beats o xs m 
     by false f g k = All-cons (λ y. stands o y m ≡ false) x xs f (k g)
 
 -- the answer is the first of the items that are compared
-chosen : (o : CmpOp) (item m : Atom) (rest xs : List Atom) → extreme_of o (item ∷ rest) ≡ Ok (m ∷ []) → all_compared (is_text item) (item ∷ rest) ≡ Ok xs
+chosen : (o : CmpOp) (item m : Atom) (rest xs : List Atom) → extreme_of o (item ∷ rest) ≡ Ok (m ∷ []) → all_compared (is_text_atom item) (item ∷ rest) ≡ Ok xs
     → first_unbeaten o xs xs ≡ m ∷ []
 chosen o item m rest xs h g =
     let e : Ok (first_unbeaten o xs xs) ≡ Ok (m ∷ []) = sym (ap (λ (r : Result (List Atom) Code). r >>= (λ ys. Ok (first_unbeaten o ys ys))) g) ∙ h in
     cc
 
-pub extreme_among : (o : CmpOp) (item m : Atom) (rest xs : List Atom) → extreme_of o (item ∷ rest) ≡ Ok (m ∷ []) → all_compared (is_text item) (item ∷ rest) ≡ Ok xs
+pub extreme_among : (o : CmpOp) (item m : Atom) (rest xs : List Atom) → extreme_of o (item ∷ rest) ≡ Ok (m ∷ []) → all_compared (is_text_atom item) (item ∷ rest) ≡ Ok xs
     → Contains xs m
 extreme_among o item m rest xs h g = best_among o xs xs m (chosen o item m rest xs h g)
 
-pub extreme_unbeaten : (o : CmpOp) (item m : Atom) (rest xs : List Atom) → extreme_of o (item ∷ rest) ≡ Ok (m ∷ []) → all_compared (is_text item) (item ∷ rest) ≡ Ok xs
+pub extreme_unbeaten : (o : CmpOp) (item m : Atom) (rest xs : List Atom) → extreme_of o (item ∷ rest) ≡ Ok (m ∷ []) → all_compared (is_text_atom item) (item ∷ rest) ≡ Ok xs
     → All (λ x. stands o x m ≡ false) xs
 extreme_unbeaten o item m rest xs h g = none_beats o xs m (best_unbeaten o xs xs m (chosen o item m rest xs h g))
 

@@ -4,7 +4,7 @@ use Rattle.sx_atoms.specs.Numbers.{◌>>=◌}
 use Rattle.sx_atoms.specs.declared.atoms.Atom.{Atom}
 use Rattle.sx_atoms.specs.declared.comparison.CmpOp.{CmpOp}
 use Rattle.sx_atoms.specs.declared.error_codes.Code.{Code}
-use Rattle.sx_fn_seq.specs.Extremes.{is_text, compared_among}
+use Rattle.sx_fn_seq.specs.Extremes.{is_text_atom, compared_among}
 use Rattle.sx_fn_seq.specs.Order.{stands}
 
 -- the better of the best so far and one more: of equal ones the first one
@@ -27,5 +27,5 @@ best_from operator texts best (item ∷ rest) = do
 -- the best of a first item and of more items
 abbrev pub best_of : CmpOp → Atom → List Atom → Result Atom Code
 best_of operator item rest = do
-  first ← compared_among (is_text item) item
-  best_from operator (is_text item) first rest
+  first ← compared_among (is_text_atom item) item
+  best_from operator (is_text_atom item) first rest

@@ -12,12 +12,12 @@ use Rattle.sx_atoms.specs.declared.error_codes.Code.TheVariants as code
 use Rattle.sx_fn_seq.specs.Order.{stands}
 
 -- whether an atom is a string
-abbrev pub is_text : Atom → Bool
-is_text (atom.Int n) = false
-is_text (atom.Dec d) = false
-is_text (atom.Str s) = true
-is_text (atom.Bool b) = false
-is_text (atom.Untyped s) = false
+abbrev pub is_text_atom : Atom → Bool
+is_text_atom (atom.Int n) = false
+is_text_atom (atom.Dec d) = false
+is_text_atom (atom.Str s) = true
+is_text_atom (atom.Bool b) = false
+is_text_atom (atom.Untyped s) = false
 
 -- an item as it is compared among texts or among numbers: what has no type is read as a decimal, and an item of another
 -- kind is an error (14.4.3)
@@ -49,5 +49,5 @@ first_unbeaten operator all (x ∷ rest) =
 abbrev pub extreme_of : CmpOp → List Atom → Result (List Atom) Code
 extreme_of operator [] = Ok []
 extreme_of operator (item ∷ rest) = do
-  xs ← all_compared (is_text item) (item ∷ rest)
+  xs ← all_compared (is_text_atom item) (item ∷ rest)
   Ok (first_unbeaten operator xs xs)

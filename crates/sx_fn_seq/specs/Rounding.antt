@@ -3,7 +3,7 @@ use Rattle.std.specs.Prelude.{List, [], ◌∷◌, Option, Some, None, Result, O
 use Rattle.sx_atoms.specs.Arguments.{number_argument}
 use Rattle.sx_atoms.specs.Positions.{floor_of, ceiling_of, rounded}
 use Rattle.sx_atoms.specs.Arithmetic.{dec}
-use Rattle.sx_atoms.specs.Numbers.{◌>>=◌, by_way_of, one}
+use Rattle.sx_atoms.specs.Numbers.{◌>>=◌, by_way_of, one_unit}
 use Rattle.sx_atoms.specs.declared.atoms.Atom.{Atom}
 use Rattle.sx_atoms.specs.declared.atoms.Atom.TheVariants as atom
 use Rattle.sx_atoms.specs.declared.error_codes.Code.{Code}
@@ -19,7 +19,7 @@ absolute_of (number.Dec d) = let m = pos (unsigned_abs d.0) in by_way_of (m ∷ 
 
 -- an integer as a decimal
 abbrev pub decimal_of : ℤ → Result Atom Code
-decimal_of z = by_way_of ((z *ℤ one) ∷ []) (atom.Dec (dec (z *ℤ one)))
+decimal_of z = by_way_of ((z *ℤ one_unit) ∷ []) (atom.Dec (dec (z *ℤ one_unit)))
 
 -- an integer in the type of a number (4.4)
 abbrev pub whole_as : Number → ℤ → Result Atom Code

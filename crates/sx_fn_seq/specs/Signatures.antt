@@ -8,51 +8,51 @@ use Rattle.sx_atoms.specs.declared.functions.Usage.{Usage}
 use Rattle.sx_atoms.specs.declared.functions.Usage.TheVariants.{Absorbs, Inspects, Navigates, Special}
 
 -- a signature of at most one argument
-abbrev pub takes : ℕ → ℕ → Usage → Signature
-takes least most usage = record { least = least; most = most; first = usage; rest = usage }
+abbrev pub taking : ℕ → ℕ → Usage → Signature
+taking least most usage = record { least = least; most = most; first = usage; rest = usage }
 
--- how many arguments a function takes, and what it does with the nodes of the first one and of the others (19.8.9)
-abbrev pub signature_of : SeqFn → Signature
-signature_of fn.Name = takes 0 1 Inspects
-signature_of fn.LocalName = takes 0 1 Inspects
-signature_of fn.NamespaceUri = takes 0 1 Inspects
-signature_of fn.Count = takes 1 1 Inspects
-signature_of fn.Empty = takes 1 1 Inspects
-signature_of fn.Exists = takes 1 1 Inspects
-signature_of fn.Boolean = takes 1 1 Inspects
-signature_of fn.Not = takes 1 1 Inspects
-signature_of fn.Sum = takes 1 1 Absorbs
-signature_of fn.Avg = takes 1 1 Absorbs
-signature_of fn.Min = takes 1 1 Absorbs
-signature_of fn.Max = takes 1 1 Absorbs
-signature_of fn.Data = takes 0 1 Absorbs
-signature_of fn.DistinctValues = takes 1 1 Absorbs
-signature_of fn.Abs = takes 1 1 Absorbs
-signature_of fn.Floor = takes 1 1 Absorbs
-signature_of fn.Ceiling = takes 1 1 Absorbs
-signature_of fn.Round = takes 1 1 Absorbs
-signature_of fn.True = takes 0 0 Special
-signature_of fn.False = takes 0 0 Special
-signature_of fn.Position = takes 0 0 Special
-signature_of fn.Last = takes 0 0 Special
-signature_of fn.Head = takes 1 1 Navigates
-signature_of fn.Tail = takes 1 1 Navigates
-signature_of fn.Reverse = takes 1 1 Navigates
-signature_of fn.Subsequence = record { least = 2; most = 3; first = Navigates; rest = Absorbs }
-signature_of fn.ZeroOrOne = takes 1 1 Navigates
-signature_of fn.OneOrMore = takes 1 1 Navigates
-signature_of fn.ExactlyOne = takes 1 1 Navigates
-signature_of fn.CopyOf = takes 0 1 Absorbs
-signature_of fn.Snapshot = takes 0 1 Absorbs
-signature_of fn.Current = takes 0 0 Special
-signature_of fn.CurrentGroup = takes 0 0 Special
-signature_of fn.CurrentGroupingKey = takes 0 0 Special
-signature_of fn.AccumulatorBefore = takes 1 1 Special
-signature_of fn.AccumulatorAfter = takes 1 1 Special
-signature_of fn.ToInteger = takes 1 1 Absorbs
-signature_of fn.ToDecimal = takes 1 1 Absorbs
-signature_of fn.ToStr = takes 1 1 Absorbs
-signature_of fn.ToBoolean = takes 1 1 Absorbs
+-- how many arguments a function taking, and what it does with the nodes of the first one and of the others (19.8.9)
+abbrev pub seq_signature : SeqFn → Signature
+seq_signature fn.Name = taking 0 1 Inspects
+seq_signature fn.LocalName = taking 0 1 Inspects
+seq_signature fn.NamespaceUri = taking 0 1 Inspects
+seq_signature fn.Count = taking 1 1 Inspects
+seq_signature fn.Empty = taking 1 1 Inspects
+seq_signature fn.Exists = taking 1 1 Inspects
+seq_signature fn.Boolean = taking 1 1 Inspects
+seq_signature fn.Not = taking 1 1 Inspects
+seq_signature fn.Sum = taking 1 1 Absorbs
+seq_signature fn.Avg = taking 1 1 Absorbs
+seq_signature fn.Min = taking 1 1 Absorbs
+seq_signature fn.Max = taking 1 1 Absorbs
+seq_signature fn.Data = taking 0 1 Absorbs
+seq_signature fn.DistinctValues = taking 1 1 Absorbs
+seq_signature fn.Abs = taking 1 1 Absorbs
+seq_signature fn.Floor = taking 1 1 Absorbs
+seq_signature fn.Ceiling = taking 1 1 Absorbs
+seq_signature fn.Round = taking 1 1 Absorbs
+seq_signature fn.True = taking 0 0 Special
+seq_signature fn.False = taking 0 0 Special
+seq_signature fn.Position = taking 0 0 Special
+seq_signature fn.Last = taking 0 0 Special
+seq_signature fn.Head = taking 1 1 Navigates
+seq_signature fn.Tail = taking 1 1 Navigates
+seq_signature fn.Reverse = taking 1 1 Navigates
+seq_signature fn.Subsequence = record { least = 2; most = 3; first = Navigates; rest = Absorbs }
+seq_signature fn.ZeroOrOne = taking 1 1 Navigates
+seq_signature fn.OneOrMore = taking 1 1 Navigates
+seq_signature fn.ExactlyOne = taking 1 1 Navigates
+seq_signature fn.CopyOf = taking 0 1 Absorbs
+seq_signature fn.Snapshot = taking 0 1 Absorbs
+seq_signature fn.Current = taking 0 0 Special
+seq_signature fn.CurrentGroup = taking 0 0 Special
+seq_signature fn.CurrentGroupingKey = taking 0 0 Special
+seq_signature fn.AccumulatorBefore = taking 1 1 Special
+seq_signature fn.AccumulatorAfter = taking 1 1 Special
+seq_signature fn.ToInteger = taking 1 1 Absorbs
+seq_signature fn.ToDecimal = taking 1 1 Absorbs
+seq_signature fn.ToStr = taking 1 1 Absorbs
+seq_signature fn.ToBoolean = taking 1 1 Absorbs
 
 -- whether a function is one of nodes or of the context, so that its arguments alone do not answer it
 abbrev pub needs_more : SeqFn → Bool
@@ -97,8 +97,8 @@ needs_more fn.ToDecimal = false
 needs_more fn.ToStr = false
 needs_more fn.ToBoolean = false
 
--- whether a call can be answered by its arguments: they are as many as the function takes, and what is the context item
+-- whether a call can be answered by its arguments: they are as many as the function taking, and what is the context item
 -- where it is missing is given
 abbrev pub is_answerable : SeqFn → ℕ → Bool
 is_answerable f count =
-    not (needs_more f) && allows (signature_of f) count && (nat_le 1 count || (signature_of f).most == 0)
+    not (needs_more f) && allows (seq_signature f) count && (nat_le 1 count || (seq_signature f).most == 0)

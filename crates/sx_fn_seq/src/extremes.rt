@@ -20,14 +20,14 @@ fn stands(operator: CmpOp, a: &Atom, b: &Atom) -> bool
 
 // Whether an atom is a string.
 fn is_text(atom: &Atom) -> bool
-    ensures { result ≡ spec.is_text atom.now }
+    ensures { result ≡ spec.is_text_atom atom.now }
 {
     matches!(atom, Atom::Str(_))
 }
 
 // A number among numbers; there is none among texts.
 fn number(alloc: Global, texts: bool, item: &Atom) -> Result<Result<Atom, Code>, AllocError>
-    requires { spec.is_text item.now ≡ false }
+    requires { spec.is_text_atom item.now ≡ false }
     ensures { IfOk result (λ answer. answer ≡ compared_among texts item.now) }
 {
     match item {

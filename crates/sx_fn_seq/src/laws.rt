@@ -7,7 +7,7 @@ ghost use Rattle.sx_atoms.specs.declared.comparison.CmpOp.TheVariants as op;
 ghost use Rattle.sx_atoms.specs.declared.functions.SeqFn.TheVariants as fn_named;
 ghost use Rattle.sx_fn_seq.specs.Calls.{seq_call};
 ghost use Rattle.sx_fn_seq.specs.Distinct.{are_equal, distinct_of};
-ghost use Rattle.sx_fn_seq.specs.Extremes.{is_text, all_compared, extreme_of};
+ghost use Rattle.sx_fn_seq.specs.Extremes.{is_text_atom, all_compared, extreme_of};
 ghost use Rattle.sx_fn_seq.specs.Order.{stands};
 ghost use Rattle.sx_fn_seq.specs.Sums.{sum_from, sum_after};
 
@@ -25,10 +25,11 @@ pub fn extremes()
         → (m : AnyAtom) × (answer ≡ m ∷ []) }
     ensures among { (o : Operator) (item m : AnyAtom) (rest xs : List AnyAtom)
         → extreme_of o (item ∷ rest) ≡ Ok (m ∷ [])
-        → all_compared (is_text item) (item ∷ rest) ≡ Ok xs → Contains xs m }
+        → all_compared (is_text_atom item) (item ∷ rest) ≡ Ok xs → Contains xs m }
     ensures unbeaten { (o : Operator) (item m : AnyAtom) (rest xs : List AnyAtom)
         → extreme_of o (item ∷ rest) ≡ Ok (m ∷ [])
-        → all_compared (is_text item) (item ∷ rest) ≡ Ok xs → All (λ x. stands o x m ≡ false) xs }
+        → all_compared (is_text_atom item) (item ∷ rest) ≡ Ok xs
+        → All (λ x. stands o x m ≡ false) xs }
 {}
 
 /// What is turned twice stands as before, and the head and the tail together are the sequence.

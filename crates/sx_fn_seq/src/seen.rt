@@ -3,8 +3,8 @@ ghost use Rattle.std.specs.Prelude.{◌≡◌, false, ◌*ℤ◌, Some, None, if
 ghost use Rattle.sx_atoms.specs.Arithmetic.{dec};
 ghost use Rattle.sx_atoms.specs.Comparison as value;
 ghost use Rattle.sx_atoms.specs.Comparison.{value_of};
-ghost use Rattle.sx_atoms.specs.Numbers.{fits, one};
-ghost use Rattle.sx_fn_seq.specs.Seeing.{Adds, IsEmpty};
+ghost use Rattle.sx_atoms.specs.Numbers.{fits, one_unit};
+ghost use Rattle.sx_fn_seq.specs.Seeing.{AddsValue, IsEmpty};
 
 use std::alloc::{AllocError, Global};
 use std::collections::BTreeSet;
@@ -22,7 +22,7 @@ pub struct Seen<'a> {
 
 // The units of an integer, where it is a decimal.
 fn units(n: i128) -> Option<i128>
-    ensures { result ≡ (if fits (n *ℤ one) then Some (n *ℤ one) else None) }
+    ensures { result ≡ (if fits (n *ℤ one_unit) then Some (n *ℤ one_unit) else None) }
 {
     n.checked_mul(UNITS)
 }
@@ -42,36 +42,37 @@ impl<'a> Seen<'a> {
 
     // Adds a decimal, in units, and says whether it is new.
     fn insert_decimal(&mut self, units: i128) -> Result<bool, AllocError>
-        ensures { IfOk result (λ added. Adds self.old self.new (value.quantity units) added) }
+        ensures { IfOk result (λ added. AddsValue self.old self.new (value.quantity units) added) }
     {
         Ok(self.decimals.insert(units)?)
     }
 
     // Adds an integer that is no decimal, and says whether it is new.
     fn insert_integer(&mut self, n: i128) -> Result<bool, AllocError>
-        requires { fits (n *ℤ one) ≡ false }
-        ensures { IfOk result (λ added. Adds self.old self.new (value.quantity (n *ℤ one)) added) }
+        requires { fits (n *ℤ one_unit) ≡ false }
+        ensures { IfOk result (λ added. AddsValue self.old self.new (value.quantity (n *ℤ one_unit))
+            added) }
     {
         Ok(self.integers.insert(n)?)
     }
 
     // Adds a text, and says whether it is new.
     fn insert_text(&mut self, text: &'a str) -> Result<bool, AllocError>
-        ensures { IfOk result (λ added. Adds self.old self.new (value.text text.now) added) }
+        ensures { IfOk result (λ added. AddsValue self.old self.new (value.text text.now) added) }
     {
         Ok(self.texts.insert(text)?)
     }
 
     // Adds a truth value, and says whether it is new.
     fn insert_truth(&mut self, b: bool) -> Result<bool, AllocError>
-        ensures { IfOk result (λ added. Adds self.old self.new (value.truth b) added) }
+        ensures { IfOk result (λ added. AddsValue self.old self.new (value.truth b) added) }
     {
         Ok(self.truths.insert(b)?)
     }
 
     /// Adds the value of an atom, and says whether it is new.
     pub fn insert(&mut self, atom: &'a Atom) -> Result<bool, AllocError>
-        ensures { IfOk result (λ added. Adds self.old self.new (value_of atom.now) added) }
+        ensures { IfOk result (λ added. AddsValue self.old self.new (value_of atom.now) added) }
     {
         match atom {
             Atom::Int(n) => match units(*n) {

@@ -1,13 +1,13 @@
 // How many arguments functions take, and what they do with nodes.
 ghost use Rattle.std.specs.Prelude.{◌≡◌};
 ghost use Rattle.sx_fn_seq.specs.Signatures as spec;
-ghost use Rattle.sx_fn_seq.specs.Signatures.{signature_of};
+ghost use Rattle.sx_fn_seq.specs.Signatures.{seq_signature};
 
 use sx_atoms::{SeqFn, Signature, Usage};
 
 // A signature of at most one argument.
 fn takes(least: u8, most: u8, usage: Usage) -> Signature
-    ensures { result ≡ spec.takes least most usage }
+    ensures { result ≡ spec.taking least most usage }
 {
     Signature {
         least,
@@ -20,7 +20,7 @@ fn takes(least: u8, most: u8, usage: Usage) -> Signature
 /// How many arguments a function takes, and what it does with the nodes of the first one and of the others (XSLT 3.0,
 /// 19.8.9).
 pub fn signature_seq(f: SeqFn) -> Signature
-    ensures { result ≡ signature_of f }
+    ensures { result ≡ seq_signature f }
 {
     use SeqFn::*;
     match f {

@@ -11,7 +11,7 @@ use Rattle.std.specs.Option.{option_map}
 use Rattle.std.specs.Str.{chars, encode_utf8_all, IsUtf8, bytes_eq}
 use Rattle.std.specs.Bool.{MatchBool}
 use Rattle.std.specs.Str.Pattern.{HasTextAt, LacksTextAt, FindsText, HasMatch, SplitsAroundMatch}
-use Rattle.sx_fn_text.specs.Characters.{place_of, is_within, part_before, part_after, before, after}
+use Rattle.sx_fn_text.specs.Characters.{place_of_text, is_within, part_before, part_after, text_before, text_after}
 
 -- two tests that hold together are one
 same_test : (a b : Bool) → (a ≡ true → b ≡ true) → (b ≡ true → a ≡ true) → a ≡ b
@@ -117,7 +117,7 @@ fewer (f ∷ fs) (g ∷ gs) xs ys e h =
     omega (arith, fewer fs gs xs ys tail shorter)
 
 -- the first place of characters, where there is no earlier one, and none
-place_here : (t s : List ℕ) → starts_with nat_eq s t ≡ true → place_of t s ≡ Some 0
+place_here : (t s : List ℕ) → starts_with nat_eq s t ≡ true → place_of_text t s ≡ Some 0
 place_here t [] h = rw h refl
 place_here t (c ∷ s) h = rw h refl
 
@@ -125,31 +125,31 @@ not_front : (t s : List ℕ) → ((rs : List ℕ) → s ≡ t ++ rs → ⊥) →
 not_front t s f true e = absurd (f (drop (length t) s) (front_of s t e))
 not_front t s f false e = refl
 
-place_further : (t s : List ℕ) (c : ℕ) → ((rs : List ℕ) → c ∷ s ≡ t ++ rs → ⊥) → place_of t (c ∷ s) ≡ option_map suc (place_of t s)
+place_further : (t s : List ℕ) (c : ℕ) → ((rs : List ℕ) → c ∷ s ≡ t ++ rs → ⊥) → place_of_text t (c ∷ s) ≡ option_map suc (place_of_text t s)
 place_further t s c f = rw (not_front t (c ∷ s) f (starts_with nat_eq (c ∷ s) t) refl) refl
 
-place_found : (t fs bs : List ℕ) → ((gs rs : List ℕ) → fs ++ (t ++ bs) ≡ gs ++ (t ++ rs) → length fs ≤ length gs) → place_of t (fs ++ (t ++ bs)) ≡ Some (length fs)
+place_found : (t fs bs : List ℕ) → ((gs rs : List ℕ) → fs ++ (t ++ bs) ≡ gs ++ (t ++ rs) → length fs ≤ length gs) → place_of_text t (fs ++ (t ++ bs)) ≡ Some (length fs)
 place_found t [] bs f = place_here t (t ++ bs) (front_is t bs)
 place_found t (c ∷ fs) bs f =
     place_further t (fs ++ (t ++ bs)) c (λ rs e. absurd (omega (arith, f [] rs e)))
     ∙ ap (option_map suc) (place_found t fs bs (λ gs rs e. omega (arith, f (c ∷ gs) rs (ap (λ l. c ∷ l) e))))
 
-place_missing : (t s : List ℕ) → ((gs rs : List ℕ) → s ≡ gs ++ (t ++ rs) → ⊥) → place_of t s ≡ None
+place_missing : (t s : List ℕ) → ((gs rs : List ℕ) → s ≡ gs ++ (t ++ rs) → ⊥) → place_of_text t s ≡ None
 place_missing t [] f = rw (not_front t [] (f []) (starts_with nat_eq [] t) refl) refl
 place_missing t (c ∷ s) f = place_further t s c (f []) ∙ ap (option_map suc) (place_missing t s (λ gs rs e. f (c ∷ gs) rs (ap (λ l. c ∷ l) e)))
 
 -- what a search in bytes finds
-pub found_place : (s t : List ℕ) (i j : ℕ) → IsUtf8 s → IsUtf8 t → i ≤ length s → FindsText t s (Some (i, j)) → place_of (chars t) (chars s) ≡ Some (length (chars (take i s)))
+pub found_place : (s t : List ℕ) (i j : ℕ) → IsUtf8 s → IsUtf8 t → i ≤ length s → FindsText t s (Some (i, j)) → place_of_text (chars t) (chars s) ≡ Some (length (chars (take i s)))
 found_place s t i j us ut low h =
     let c = cut_at s t i j us ut low h.1 in
     let fs = chars (take i s) in
     let bs = chars (drop j s) in
     let size : length (encode_utf8_all fs) ≤ i = omega (arith, ap length (encodes-chars (take i s) c.front), length-take i s) in
-    ap (place_of (chars t)) c.whole
+    ap (place_of_text (chars t)) c.whole
     ∙ place_found (chars t) fs bs (λ gs rs e.
     fewer fs gs (chars t ++ bs) (chars t ++ rs) e (omega (arith, size, no_earlier s t gs rs i us ut h.0 (c.whole ∙ e))))
 
-pub no_place : (s t : List ℕ) → IsUtf8 s → IsUtf8 t → FindsText t s None → place_of (chars t) (chars s) ≡ None
+pub no_place : (s t : List ℕ) → IsUtf8 s → IsUtf8 t → FindsText t s None → place_of_text (chars t) (chars s) ≡ None
 no_place s t us ut h = place_missing (chars t) (chars s) (λ gs rs e.
     let k = length (encode_utf8_all gs) in
     let whole = bytes_from s t gs rs us ut e in
@@ -160,29 +160,29 @@ pub within_same : (r : Bool) (s t : List ℕ) → IsUtf8 s → IsUtf8 t → Matc
 within_same true s t us ut m = sym (ap is_some (found_place s t m.0 m.1 us ut (omega arith) m.2))
 within_same false s t us ut m = sym (ap is_some (no_place s t us ut m))
 
-pub before_found : (s t front back : List ℕ) → IsUtf8 s → IsUtf8 t → SplitsAroundMatch (FindsText t) s front back → front ≡ encode_utf8_all (before (chars s) (chars t))
+pub before_found : (s t front back : List ℕ) → IsUtf8 s → IsUtf8 t → SplitsAroundMatch (FindsText t) s front back → front ≡ encode_utf8_all (text_before (chars s) (chars t))
 before_found s t front back us ut m =
     let low : m.0 ≤ length s = omega arith in
     let c = cut_at s t m.0 m.1 us ut low m.2.1 in
     let fs = chars (take m.0 s) in
     let rest = chars t ++ chars (drop m.1 s) in
-    let e : before (chars s) (chars t) ≡ fs =
+    let e : text_before (chars s) (chars t) ≡ fs =
     ap (part_before (chars s)) (found_place s t m.0 m.1 us ut low m.2) ∙ ap (take (length fs)) c.whole ∙ take-append_seam fs rest in
     m.3 ∙ sym (ap encode_utf8_all e ∙ encodes-chars (take m.0 s) c.front)
 
-pub after_found : (s t front back : List ℕ) → IsUtf8 s → IsUtf8 t → SplitsAroundMatch (FindsText t) s front back → back ≡ encode_utf8_all (after (chars s) (chars t))
+pub after_found : (s t front back : List ℕ) → IsUtf8 s → IsUtf8 t → SplitsAroundMatch (FindsText t) s front back → back ≡ encode_utf8_all (text_after (chars s) (chars t))
 after_found s t front back us ut m =
     let low : m.0 ≤ length s = omega arith in
     let c = cut_at s t m.0 m.1 us ut low m.2.1 in
     let fs = chars (take m.0 s) in
     let bs = chars (drop m.1 s) in
-    let e : after (chars s) (chars t) ≡ bs =
+    let e : text_after (chars s) (chars t) ≡ bs =
     ap (part_after (chars s) (length (chars t))) (found_place s t m.0 m.1 us ut low m.2) ∙ ap (drop (length fs + length (chars t))) c.whole
     ∙ drop-append-add fs (chars t ++ bs) (length (chars t)) ∙ drop-append_seam (chars t) bs in
     m.4 ∙ sym (ap encode_utf8_all e ∙ encodes-chars (drop m.1 s) c.back)
 
-pub before_none : (s t : List ℕ) → IsUtf8 s → IsUtf8 t → FindsText t s None → [] ≡ encode_utf8_all (before (chars s) (chars t))
+pub before_none : (s t : List ℕ) → IsUtf8 s → IsUtf8 t → FindsText t s None → [] ≡ encode_utf8_all (text_before (chars s) (chars t))
 before_none s t us ut h = sym (ap (λ o. encode_utf8_all (part_before (chars s) o)) (no_place s t us ut h))
 
-pub after_none : (s t : List ℕ) → IsUtf8 s → IsUtf8 t → FindsText t s None → [] ≡ encode_utf8_all (after (chars s) (chars t))
+pub after_none : (s t : List ℕ) → IsUtf8 s → IsUtf8 t → FindsText t s None → [] ≡ encode_utf8_all (text_after (chars s) (chars t))
 after_none s t us ut h = sym (ap (λ o. encode_utf8_all (part_after (chars s) (length (chars t)) o)) (no_place s t us ut h))

@@ -1,4 +1,4 @@
--- Texts that are printed one behind another.
+-- Texts that are printed_atoms one separated_behind another.
 use Rattle.std.proofs.Common.{◌≡◌, ℕ, suc, ◌+◌, ◌<◌, Bool, false, not, ◌==◌, List, [], ◌∷◌, ◌++◌, map, length, get_or, drop, Result, Ok, Err, is_ok, if◌then◌else◌, OnOk, refl, ap, sym, ◌∙◌, append_assoc, length-append, add-one, arith}
 use Rattle.std.proofs.Math.Seq.{drop-cons}
 use Rattle.std.proofs.lemmas.Bool.Decides.{nat_tests}
@@ -10,21 +10,21 @@ use Rattle.sx_atoms.specs.Numbers.{◌>>=◌}
 use Rattle.sx_atoms.specs.Printing.{text_of}
 use Rattle.sx_atoms.specs.declared.atoms.Atom.{Atom}
 use Rattle.sx_atoms.specs.declared.error_codes.Code.{Code}
-use Rattle.sx_fn_text.specs.Calls.{printed, concatenated}
-use Rattle.sx_fn_text.specs.Characters.{behind}
+use Rattle.sx_fn_text.specs.Calls.{printed_atoms, concatenated}
+use Rattle.sx_fn_text.specs.Characters.{separated_behind}
 use Rattle.sx_fn_text.specs.Pieces.{is_begun, IsPrinted}
 
 -- the bytes of a text are those of its characters
 pub same_bytes : (bytes text : List ℕ) → IsUtf8 bytes → bytes ≡ text → bytes ≡ encode_utf8_all (chars text)
 same_bytes bytes text u e = sym (encodes-chars bytes u) ∙ ap (λ (l : List ℕ). encode_utf8_all (chars l)) e
 
--- what `push_str` leaves, of a text that is printed
+-- what `push_str` leaves, of a text that is printed_atoms
 pub pushed : {E : Type 0} (r : Result (Unit {0}) E) (after before bytes text : List ℕ) → IsUtf8 bytes → bytes ≡ text
     → after ≡ (if is_ok r then before ++ bytes else before) → OnOk r (after ≡ before ++ encode_utf8_all (chars text))
 pushed (Ok x) after before bytes text u e h = h ∙ ap (λ l. before ++ l) (same_bytes bytes text u e)
 pushed (Err x) after before bytes text u e h = tt
 
--- the characters that are printed of an atom
+-- the characters that are printed_atoms of an atom
 abbrev pub print : Atom → List ℕ
 print a = chars (text_of a)
 
@@ -34,16 +34,16 @@ next_item xs i a low is = drop-cons xs i a low ∙ ap (λ x. x ∷ drop (suc i) 
 
 -- what is still to be written of a text that is joined
 pub join_step : (out separator : List ℕ) (atoms : List Atom) (i : ℕ) (a : Atom) → IsUtf8 separator → i < length atoms → a ≡ get_or atoms i a
-    → ((out ++ separator) ++ encode_utf8_all (print a)) ++ encode_utf8_all (behind (chars separator) (map print (drop (i + 1) atoms)))
-    ≡ out ++ encode_utf8_all (behind (chars separator) (map print (drop i atoms)))
+    → ((out ++ separator) ++ encode_utf8_all (print a)) ++ encode_utf8_all (separated_behind (chars separator) (map print (drop (i + 1) atoms)))
+    ≡ out ++ encode_utf8_all (separated_behind (chars separator) (map print (drop i atoms)))
 join_step out separator atoms i a u low is =
-    let rest = behind (chars separator) (map print (drop (i + 1) atoms)) in
+    let rest = separated_behind (chars separator) (map print (drop (i + 1) atoms)) in
     let cut = next_item atoms i a low is in
     let inner : encode_utf8_all (chars separator ++ (print a ++ rest)) ≡ separator ++ (encode_utf8_all (print a) ++ encode_utf8_all rest) =
     encodes-append (chars separator) (print a ++ rest) ∙ ap (λ l. l ++ encode_utf8_all (print a ++ rest)) (encodes-chars separator u)
     ∙ ap (λ l. separator ++ l) (encodes-append (print a) rest) in
     append_assoc (out ++ separator) (encode_utf8_all (print a)) (encode_utf8_all rest) ∙ append_assoc out separator (encode_utf8_all (print a) ++ encode_utf8_all rest)
-    ∙ sym (ap (λ l. out ++ l) inner) ∙ sym (ap (λ (l : List Atom). out ++ encode_utf8_all (behind (chars separator) (map print l))) cut)
+    ∙ sym (ap (λ l. out ++ l) inner) ∙ sym (ap (λ (l : List Atom). out ++ encode_utf8_all (separated_behind (chars separator) (map print l))) cut)
 
 -- bytes before characters
 abbrev pub bytes_onto : List ℕ → Result (List ℕ) Code → Result (List ℕ) Code
@@ -68,11 +68,11 @@ concat_next out after args i x low is p =
     ap concatenated (next_item args i x low is) ∙ ap (λ (r : Result (List ℕ) Code). r >>= (λ bytes. rest >>= (λ more. Ok (chars bytes ++ more)))) p.1 in
     ap (λ l. bytes_onto l rest) p.2 ∙ concat_step out p.0 rest ∙ sym (ap (bytes_onto out) e)
 
-pub printed_nothing : (atoms : List Atom) → length atoms < 1 → printed atoms ≡ Ok []
+pub printed_nothing : (atoms : List Atom) → length atoms < 1 → printed_atoms atoms ≡ Ok []
 printed_nothing [] h = refl
 printed_nothing (a ∷ atoms) h = absurd (omega arith)
 
--- what `push` leaves behind characters, and behind a space too
+-- what `push` leaves separated_behind characters, and separated_behind a space too
 pub one_more : {E : Type 0} (r : Result (Unit {0}) E) (after before : List ℕ) (c : ℕ) → after ≡ (if is_ok r then before ++ encode_utf8 c else before)
     → OnOk r ((cs : List ℕ) → before ≡ encode_utf8_all cs → after ≡ encode_utf8_all (cs ++ c ∷ []))
 one_more (Ok x) after before c h = λ cs e.

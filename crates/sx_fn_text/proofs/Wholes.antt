@@ -12,7 +12,7 @@ use Rattle.sx_atoms.specs.declared.atoms.Atom.{Atom}
 use Rattle.sx_atoms.specs.declared.error_codes.Code.{Code}
 use Rattle.sx_atoms.specs.declared.functions.TextFn.TheVariants as fn
 use Rattle.sx_fn_text.specs.Calls.{text_call, truth}
-use Rattle.sx_fn_text.specs.Characters.{place_of, is_within, part_before, part_after, before, after, partner, translated}
+use Rattle.sx_fn_text.specs.Characters.{place_of_text, is_within, part_before, part_after, text_before, text_after, partner, translated}
 use Rattle.sx_fn_text.specs.Laws.{text, integer}
 use Rattle.sx_fn_text.proofs.Finds.{front_of}
 
@@ -51,13 +51,13 @@ one_further t c s (Some k) i h f =
     subst (λ (n : ℕ). c ∷ s ≡ take n (c ∷ s) ++ (t ++ drop (n + length t) (c ∷ s))) next
     (ap (λ l. c ∷ l) (f k refl) ∙ ap (λ (n : ℕ). c ∷ (take k s ++ (t ++ drop n (c ∷ s)))) e)
 
-place_cuts : (t s : List ℕ) (i : ℕ) → place_of t s ≡ Some i → s ≡ take i s ++ (t ++ drop (i + length t) s)
+place_cuts : (t s : List ℕ) (i : ℕ) → place_of_text t s ≡ Some i → s ≡ take i s ++ (t ++ drop (i + length t) s)
 place_cuts t [] i h = here t [] (starts_with nat_eq [] t) None i refl h (λ e g. absurd (cc))
 place_cuts t (c ∷ s) i h =
-    here t (c ∷ s) (starts_with nat_eq (c ∷ s) t) (option_map suc (place_of t s)) i refl h (λ e g. one_further t c s (place_of t s) i g (place_cuts t s))
+    here t (c ∷ s) (starts_with nat_eq (c ∷ s) t) (option_map suc (place_of_text t s)) i refl h (λ e g. one_further t c s (place_of_text t s) i g (place_cuts t s))
 
--- the parts before and behind the first place
-parts_at : (s t : List ℕ) (o : Option ℕ) → place_of t s ≡ o → is_some o ≡ true → part_before s o ++ (t ++ part_after s (length t) o) ≡ s
+-- the parts text_before and behind the first place
+parts_at : (s t : List ℕ) (o : Option ℕ) → place_of_text t s ≡ o → is_some o ≡ true → part_before s o ++ (t ++ part_after s (length t) o) ≡ s
 parts_at s t None e h = absurd (cc)
 parts_at s t (Some i) e h = sym (place_cuts t s i e)
 
@@ -69,11 +69,11 @@ pub parts : (s t b a : List ℕ) → IsUtf8 s → IsUtf8 t → text_call fn.Cont
 parts s t b a us ut h g k =
     let xs = chars s in
     let ys = chars t in
-    let eb : encode_utf8_all (before xs ys) ≡ b = same_answer (encode_utf8_all (before xs ys)) b g in
-    let ea : encode_utf8_all (after xs ys) ≡ a = same_answer (encode_utf8_all (after xs ys)) a k in
-    let whole : before xs ys ++ (ys ++ after xs ys) ≡ xs = parts_at xs ys (place_of ys xs) refl (same_truth (is_within ys xs) true h) in
-    let inner : encode_utf8_all (ys ++ after xs ys) ≡ t ++ a = encodes-append ys (after xs ys) ∙ ap (λ l. l ++ encode_utf8_all (after xs ys)) (encodes-chars t ut) ∙ ap (λ l. t ++ l) ea in
-    sym (encodes-append (before xs ys) (ys ++ after xs ys) ∙ ap (λ l. l ++ encode_utf8_all (ys ++ after xs ys)) eb ∙ ap (λ l. b ++ l) inner)
+    let eb : encode_utf8_all (text_before xs ys) ≡ b = same_answer (encode_utf8_all (text_before xs ys)) b g in
+    let ea : encode_utf8_all (text_after xs ys) ≡ a = same_answer (encode_utf8_all (text_after xs ys)) a k in
+    let whole : text_before xs ys ++ (ys ++ text_after xs ys) ≡ xs = parts_at xs ys (place_of_text ys xs) refl (same_truth (is_within ys xs) true h) in
+    let inner : encode_utf8_all (ys ++ text_after xs ys) ≡ t ++ a = encodes-append ys (text_after xs ys) ∙ ap (λ l. l ++ encode_utf8_all (text_after xs ys)) (encodes-chars t ut) ∙ ap (λ l. t ++ l) ea in
+    sym (encodes-append (text_before xs ys) (ys ++ text_after xs ys) ∙ ap (λ l. l ++ encode_utf8_all (ys ++ text_after xs ys)) eb ∙ ap (λ l. b ++ l) inner)
     ∙ ap encode_utf8_all whole ∙ encodes-chars s us
 
 -- each position is one from the first one on

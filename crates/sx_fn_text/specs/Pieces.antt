@@ -5,7 +5,7 @@ use Rattle.sx_atoms.specs.Lexical.{is_blank}
 use Rattle.sx_atoms.specs.Numbers.{◌>>=◌}
 use Rattle.sx_atoms.specs.declared.atoms.Atom.{Atom}
 use Rattle.sx_atoms.specs.declared.error_codes.Code.{Code}
-use Rattle.sx_fn_text.specs.Calls.{printed, concatenated}
+use Rattle.sx_fn_text.specs.Calls.{printed_atoms, concatenated}
 
 -- a character behind others, and a space before it where it stands apart
 abbrev pub extended : List ℕ → Bool → ℕ → List ℕ
@@ -24,12 +24,12 @@ is_begun (c ∷ cs) = true
 abbrev pub next_apart : List ℕ → ℕ → Bool
 next_apart cs c = if is_blank c then is_begun cs else false
 
--- the second bytes are the first ones and what is printed of an argument
+-- the second bytes are the first ones and what is printed_atoms of an argument
 abbrev pub IsPrinted : List Atom → List ℕ → List ℕ → Type 0
 IsPrinted atoms before after =
-    (bytes : List ℕ) × (printed atoms ≡ Ok bytes) × (after ≡ before ++ encode_utf8_all (chars bytes))
+    (bytes : List ℕ) × (printed_atoms atoms ≡ Ok bytes) × (after ≡ before ++ encode_utf8_all (chars bytes))
 
--- the bytes of what is printed of arguments
+-- the bytes of what is printed_atoms of arguments
 abbrev pub bytes_concatenated : List (List Atom) → Result (List ℕ) Code
 bytes_concatenated args = do
   s ← concatenated args

@@ -10,16 +10,16 @@ abbrev pub absorbing : ℕ → ℕ → Signature
 absorbing least most = record { least = least; most = most; first = usage.Absorbs; rest = usage.Absorbs }
 
 -- the signature of a function (XPath functions and operators 3.1, 5 and 2.3)
-abbrev pub signature_of : TextFn → Signature
-signature_of fn.String = absorbing 0 1
-signature_of fn.StringLength = absorbing 0 1
-signature_of fn.NormalizeSpace = absorbing 0 1
-signature_of fn.Concat = absorbing 2 16
-signature_of fn.StringJoin = absorbing 1 2
-signature_of fn.Contains = absorbing 2 2
-signature_of fn.StartsWith = absorbing 2 2
-signature_of fn.EndsWith = absorbing 2 2
-signature_of fn.SubstringBefore = absorbing 2 2
-signature_of fn.SubstringAfter = absorbing 2 2
-signature_of fn.Substring = absorbing 2 3
-signature_of fn.Translate = absorbing 3 3
+abbrev pub text_signature : TextFn → Signature
+text_signature fn.String = absorbing 0 1
+text_signature fn.StringLength = absorbing 0 1
+text_signature fn.NormalizeSpace = absorbing 0 1
+text_signature fn.Concat = absorbing 2 16
+text_signature fn.StringJoin = absorbing 1 2
+text_signature fn.Contains = absorbing 2 2
+text_signature fn.StartsWith = absorbing 2 2
+text_signature fn.EndsWith = absorbing 2 2
+text_signature fn.SubstringBefore = absorbing 2 2
+text_signature fn.SubstringAfter = absorbing 2 2
+text_signature fn.Substring = absorbing 2 3
+text_signature fn.Translate = absorbing 3 3

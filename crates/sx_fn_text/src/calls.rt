@@ -6,7 +6,7 @@ ghost use Rattle.sx_atoms.specs.Signature.{allows};
 ghost use Rattle.sx_atoms.specs.declared.functions.TextFn.TheVariants as fn_of;
 ghost use Rattle.sx_fn_text.specs.Calls as spec;
 ghost use Rattle.sx_fn_text.specs.Calls.{text_call};
-ghost use Rattle.sx_fn_text.specs.Signatures.{signature_of};
+ghost use Rattle.sx_fn_text.specs.Signatures.{text_signature};
 
 use crate::{characters, pieces, places};
 use std::alloc::{AllocError, Global};
@@ -20,8 +20,8 @@ type Answer = Result<Result<Atoms, Code>, AllocError>;
 // An argument as a text.
 fn text_at(args: &Args, at: usize) -> Result<&str, Code>
     ensures { MatchResult result
-        (λ s. spec.text_at args.now at ≡ Ok (chars s.now))
-        (λ e. spec.text_at args.now at ≡ Err e) }
+        (λ s. spec.text_of_argument args.now at ≡ Ok (chars s.now))
+        (λ e. spec.text_of_argument args.now at ≡ Err e) }
 {
     text(argument(args, at))
 }
@@ -172,7 +172,7 @@ fn translate(alloc: Global, args: &Args) -> Answer
 /// it is missing has to be given. XPTY0004 where an argument is no text, `string` and `concat` have more than one atom in an
 /// argument, or `substring` has no numbers; there also the codes of the cast to a decimal.
 pub fn call_text(alloc: Global, f: TextFn, args: &Args) -> Result<Result<Atoms, Code>, AllocError>
-    requires allowed { IsTrue (allows (signature_of f) (length args.now)) }
+    requires allowed { IsTrue (allows (text_signature f) (length args.now)) }
     requires given { 1 ≤ length args.now }
     ensures { IfOk result (λ answer. answer ≡ text_call f args.now) }
 {

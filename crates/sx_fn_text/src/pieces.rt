@@ -4,7 +4,7 @@ ghost use Rattle.std.specs.Prelude.{string_bytes};
 ghost use Rattle.std.specs.Str.{chars, encode_utf8_all};
 ghost use Rattle.sx_atoms.specs.Lexical as lexical;
 ghost use Rattle.sx_atoms.specs.Printing.{text_of};
-ghost use Rattle.sx_fn_text.specs.Calls.{printed, prints_joined};
+ghost use Rattle.sx_fn_text.specs.Calls.{printed_atoms, prints_joined};
 ghost use Rattle.sx_fn_text.specs.Characters as spec;
 ghost use Rattle.sx_fn_text.specs.Pieces.{extended, next_text, next_apart, IsPrinted, bytes_concatenated};
 
@@ -94,7 +94,7 @@ fn append_argument(
 ) -> Result<Result<(), Code>, AllocError>
     ensures { IfOk result (λ answer. MatchResult answer
         (λ _. IsPrinted atoms.now (string_bytes out.old) (string_bytes out.new))
-        (λ e. printed atoms.now ≡ Err e)) }
+        (λ e. printed_atoms atoms.now ≡ Err e)) }
 {
     match atoms {
         [] => Ok(Ok(())),

@@ -27,7 +27,7 @@ pub fn ends(s: &str, t: &str) -> bool
 
 /// What stands in s before the first place of t, and "" where there is none.
 pub fn before<'a>(s: &'a str, t: &str) -> &'a str
-    ensures { result.now ≡ encode_utf8_all (spec.before (chars s.now) (chars t.now)) }
+    ensures { result.now ≡ encode_utf8_all (spec.text_before (chars s.now) (chars t.now)) }
 {
     match s.split_once(t) {
         Some((front, _)) => front,
@@ -37,7 +37,7 @@ pub fn before<'a>(s: &'a str, t: &str) -> &'a str
 
 /// What stands in s behind the first place of t, and "" where there is none.
 pub fn after<'a>(s: &'a str, t: &str) -> &'a str
-    ensures { result.now ≡ encode_utf8_all (spec.after (chars s.now) (chars t.now)) }
+    ensures { result.now ≡ encode_utf8_all (spec.text_after (chars s.now) (chars t.now)) }
 {
     match s.split_once(t) {
         Some((_, back)) => back,

@@ -2,7 +2,7 @@
 use Rattle.std.proofs.Common.{◌≡◌, ℕ, zero, suc, ◌+◌, ◌<◌, ◌≤◌, Bool, true, false, List, [], ◌∷◌, map, None, Some, refl, ap, sym, ◌∙◌, subst, arith}
 use Rattle.std.specs.Prelude.{if◌then◌else◌}
 use Rattle.std.specs.List.{slice_get}
-use Rattle.sx_kinds.specs.Ways.{above_first, first_or, front, goes_on, levels, next}
+use Rattle.sx_kinds.specs.Ways.{above_first, first_or, front, goes_on, levels, next_below}
 use Rattle.sx_kinds.specs.declared.expressions.Expr.{Expr}
 use Rattle.sx_kinds.specs.declared.expressions.Expr.TheOpen.{Expr-F}
 use Rattle.sx_kinds.specs.declared.expressions.Expr.TheFolds.{fold_out-Expr}
@@ -51,16 +51,16 @@ levels_none way e parts goes all is =
 pub levels_end : (way : Way) (e : Expr) → on way e ≡ false → levels way e ≡ 0
 levels_end way e ends = levels_by way e false ends
 
-next_by : (way : Way) (e : Expr) (b : Bool) → on way e ≡ b → next way e ≡ (if b then first_or e (out-Expr e).parts else e)
+next_by : (way : Way) (e : Expr) (b : Bool) → on way e ≡ b → next_below way e ≡ (if b then first_or e (out-Expr e).parts else e)
 next_by way e b is = ap (λ (c : Bool). if c then first_or e (out-Expr e).parts else e) is
 
-pub next_some : (way : Way) (e first : Expr) (parts : List Expr) → on way e ≡ true → parts ≡ (out-Expr e).parts → Some first ≡ slice_get parts 0 → next way e ≡ first
+pub next_some : (way : Way) (e first : Expr) (parts : List Expr) → on way e ≡ true → parts ≡ (out-Expr e).parts → Some first ≡ slice_get parts 0 → next_below way e ≡ first
 next_some way e first parts goes all is = next_by way e true goes ∙ ap (first_or e) (sym all) ∙ first_some e parts first is
 
-pub next_none : (way : Way) (e : Expr) (parts : List Expr) → on way e ≡ true → parts ≡ (out-Expr e).parts → None ≡ slice_get parts 0 → next way e ≡ e
+pub next_none : (way : Way) (e : Expr) (parts : List Expr) → on way e ≡ true → parts ≡ (out-Expr e).parts → None ≡ slice_get parts 0 → next_below way e ≡ e
 next_none way e parts goes all is = next_by way e true goes ∙ ap (first_or e) (sym all) ∙ first_none e parts is
 
-pub next_end : (way : Way) (e : Expr) → on way e ≡ false → next way e ≡ e
+pub next_end : (way : Way) (e : Expr) → on way e ≡ false → next_below way e ≡ e
 next_end way e ends = next_by way e false ends
 
 -- on from one on the way
@@ -69,10 +69,10 @@ front_on way zero b n e h =
     let same : b ≡ n = omega (arith, h) in
     ap (λ (k : ℕ). front way k e) same
 front_on way (suc a) b zero e h = absurd (omega (arith, h))
-front_on way (suc a) b (suc n) e h = front_on way a b n (next way e) (omega (arith, h))
+front_on way (suc a) b (suc n) e h = front_on way a b n (next_below way e) (omega (arith, h))
 
 -- the last one on the way stays
-pub front_last : (way : Way) (n : ℕ) (e : Expr) → next way e ≡ e → front way n e ≡ e
+pub front_last : (way : Way) (n : ℕ) (e : Expr) → next_below way e ≡ e → front way n e ≡ e
 front_last way zero e none = refl
 front_last way (suc n) e none = ap (front way n) none ∙ front_last way n e none
 
@@ -83,17 +83,17 @@ abbrev pub BeginsWith : Expr → List Expr → Type 0
 BeginsWith first parts = (rest : List Expr) × (parts ≡ first ∷ rest)
 
 down_by : (way : Way) (e : Expr) (b : Bool) (parts : List Expr) → on way e ≡ b → (out-Expr e).parts ≡ parts →
-    0 < (if b then above_first (map (levels way) parts) else 0) → BeginsWith (next way e) (out-Expr e).parts × (levels way e ≡ suc (levels way (next way e)))
+    0 < (if b then above_first (map (levels way) parts) else 0) → BeginsWith (next_below way e) (out-Expr e).parts × (levels way e ≡ suc (levels way (next_below way e)))
 down_by way e false parts is all h = absurd (omega (arith, h))
 down_by way e true [] is all h = absurd (omega (arith, h))
 down_by way e true (p ∷ ps) is all h =
-    let one : next way e ≡ p = next_by way e true is ∙ ap (first_or e) all in (
+    let one : next_below way e ≡ p = next_by way e true is ∙ ap (first_or e) all in (
       (ps, all ∙ ap (λ (x : Expr). x ∷ ps) (sym one)),
       levels_by way e true is ∙ ap (λ (qs : List Expr). above_first (map (levels way) qs)) all ∙ ap (λ (x : Expr). suc (levels way x)) (sym one),
     )
 
--- an expression that is not at the end of the way has the next one on it as its first part, with one level less
-pub down_one : (way : Way) (e : Expr) → 0 < levels way e → BeginsWith (next way e) (out-Expr e).parts × (levels way e ≡ suc (levels way (next way e)))
+-- an expression that is not at the end of the way has the next_below one on it as its first part, with one level less
+pub down_one : (way : Way) (e : Expr) → 0 < levels way e → BeginsWith (next_below way e) (out-Expr e).parts × (levels way e ≡ suc (levels way (next_below way e)))
 down_one way e h =
     down_by way e (on way e) (out-Expr e).parts refl refl (subst (λ (n : ℕ). 0 < n) (levels_out way e) h)
 
@@ -110,12 +110,12 @@ pub levels_front : (way : Way) (n : ℕ) (e : Expr) → n ≤ levels way e → l
 levels_front way zero e h = omega arith
 levels_front way (suc n) e h =
     let one = down_one way e (omega (arith, h)) in
-    let more = levels_front way n (next way e) (omega (arith, h, one.1)) in
+    let more = levels_front way n (next_below way e) (omega (arith, h, one.1)) in
     omega (arith, one.1, more)
 
-next_front : (way : Way) (n : ℕ) (e : Expr) → next way (front way n e) ≡ front way (suc n) e
+next_front : (way : Way) (n : ℕ) (e : Expr) → next_below way (front way n e) ≡ front way (suc n) e
 next_front way zero e = refl
-next_front way (suc n) e = next_front way n (next way e)
+next_front way (suc n) e = next_front way n (next_below way e)
 
 -- what lies one further below is the first part of what lies above it
 pub first_part : (way : Way) (n : ℕ) (e : Expr) → n < levels way e → BeginsWith (front way (suc n) e) (out-Expr (front way n e)).parts

@@ -48,9 +48,9 @@ may_be_number kinds.AnyAtom = true
 may_be_number kinds.Any = true
 may_be_number _ = false
 
--- two kinds joined: the one that both are, or the least that has both; `()` is neutral
-abbrev pub joined : TyKind → TyKind → TyKind
-joined a b =
+-- two kinds joined_kind: the one that both are, or the least that has both; `()` is neutral
+abbrev pub joined_kind : TyKind → TyKind → TyKind
+joined_kind a b =
     if rank a == 13 then b else
     if rank b == 13 then a else
     if rank a == rank b then a else

@@ -8,9 +8,9 @@ use Rattle.sx_kinds.specs.declared.types.Ty.{Ty}
 use Rattle.sx_kinds.specs.declared.types.TyKind.{TyKind}
 use Rattle.sx_kinds.specs.declared.types.TyKind.TheVariants as kinds
 
--- one item at most of a kind, which is no node of a copy
-abbrev pub one : TyKind → Ty
-one kind = record { kind = kind; at_most_one = true; origin = Source }
+-- one_of_kind item at most of a kind, which is no node of a copy
+abbrev pub one_of_kind : TyKind → Ty
+one_of_kind kind = record { kind = kind; at_most_one = true; origin = Source }
 
 -- any number of such items
 abbrev pub many : TyKind → Ty
@@ -21,7 +21,7 @@ abbrev pub is_source : Origin → Bool
 is_source Source = true
 is_source _ = false
 
--- whether it is one copied tree
+-- whether it is one_of_kind copied tree
 abbrev pub is_one : Origin → Bool
 is_one One = true
 is_one _ = false
@@ -36,21 +36,21 @@ abbrev pub is_forest : Origin → Bool
 is_forest Forest = true
 is_forest _ = false
 
--- whether two origins are one
+-- whether two origins are one_of_kind
 abbrev pub is_same_origin : Origin → Origin → Bool
 is_same_origin Source b = is_source b
 is_same_origin One b = is_one b
 is_same_origin Separate b = is_separate b
 is_same_origin Forest b = is_forest b
 
--- one item of those of a type, as it is the focus of what is evaluated for each of them: it comes from one tree
+-- one_of_kind item of those of a type, as it is the focus of what is evaluated for each of them: it comes from one_of_kind tree
 abbrev pub item_of : Ty → Ty
 item_of t = record { kind = t.kind; at_most_one = true; origin = if is_source t.origin then Source else One }
 
--- the context behind `//`: a node at or below it
-abbrev pub below : Deep → Ty → Ty
-below deeps.No t = t
-below _ t = record { kind = kinds.Node; at_most_one = true; origin = t.origin }
+-- the context behind `//`: a node at or type_below it
+abbrev pub type_below : Deep → Ty → Ty
+type_below deeps.No t = t
+type_below _ t = record { kind = kinds.Node; at_most_one = true; origin = t.origin }
 
 -- whether an expression stands behind `//`
 abbrev pub is_deep : Deep → Bool

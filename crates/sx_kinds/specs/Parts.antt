@@ -11,13 +11,13 @@ use Rattle.sx_kinds.specs.declared.types.Start.TheVariants as starts
 use Rattle.sx_kinds.specs.declared.types.TyKind.{TyKind}
 use Rattle.sx_kinds.specs.declared.types.TyKind.TheVariants as kinds
 use Rattle.sx_kinds.specs.declared.types.Typing.{Typing}
-use Rattle.sx_kinds.specs.Kinds.{may_be_node, may_be_number, joined}
-use Rattle.sx_kinds.specs.Origins.{one, is_source}
+use Rattle.sx_kinds.specs.Kinds.{may_be_node, may_be_number, joined_kind}
+use Rattle.sx_kinds.specs.Origins.{one_of_kind, is_source}
 
 -- what is known of a part that is not there
 abbrev pub missing : Typing
 missing = record {
-  ty = one kinds.Nothing;
+  ty = one_of_kind kinds.Nothing;
   shape = shapes.Other;
   deep = false;
   start = starts.Nowhere;
@@ -30,14 +30,14 @@ there None = missing
 there (Some t) = t
 
 -- the first of some parts
-abbrev pub first_of : List Typing → Option Typing
-first_of [] = None
-first_of (t ∷ ts) = Some t
+abbrev pub first_typing : List Typing → Option Typing
+first_typing [] = None
+first_typing (t ∷ ts) = Some t
 
 -- the second
 abbrev pub second_of : List Typing → Option Typing
 second_of [] = None
-second_of (t ∷ ts) = first_of ts
+second_of (t ∷ ts) = first_typing ts
 
 -- the third
 abbrev pub third_of : List Typing → Option Typing
@@ -55,7 +55,7 @@ abbrev pub is_child_step : Shape → Bool
 is_child_step shapes.ChildStep = true
 is_child_step _ = false
 
--- whether it is a call of `copy-of` or `snapshot`, or a filter of one
+-- whether it is a call of `copy-of` or `snapshot`, or a filter of one_of_kind
 abbrev pub is_copy : Shape → Bool
 is_copy shapes.Copy = true
 is_copy _ = false
@@ -69,7 +69,7 @@ is_per_item _ = false
 abbrev pub is_positional : Typing → Bool
 is_positional t = may_be_number t.ty.kind || t.counts
 
--- whether two expressions take their nodes by steps from one item or one variable
+-- whether two expressions take their nodes by steps from one_of_kind item or one_of_kind variable
 abbrev pub is_same_start : Start → Start → Bool
 is_same_start starts.Context starts.Context = true
 is_same_start (starts.Variable x) (starts.Variable y) = x == y
@@ -109,10 +109,10 @@ comma_origin [] = None
 comma_origin (o ∷ []) = Some o
 comma_origin (o ∷ p ∷ os) = Some (if all_source (o ∷ p ∷ os) then Source else Forest)
 
--- a kind joined with those of some parts
+-- a kind joined_kind with those of some parts
 abbrev pub joined_all : TyKind → List Typing → TyKind
 joined_all kind [] = kind
-joined_all kind (t ∷ ts) = joined_all (joined kind t.ty.kind) ts
+joined_all kind (t ∷ ts) = joined_all (joined_kind kind t.ty.kind) ts
 
 -- where these nodes and those of some parts start
 abbrev pub start_of_all : Start → List Typing → Start
@@ -120,9 +120,9 @@ start_of_all start [] = start
 start_of_all start (t ∷ ts) = start_of_all (joined_start start t.start) ts
 
 -- what is known of some parts together
-abbrev pub parts_of : List Typing → Parts
-parts_of ts = record {
-  first = first_of ts;
+abbrev pub parts_of_typings : List Typing → Parts
+parts_of_typings ts = record {
+  first = first_typing ts;
   second = second_of ts;
   third = third_of ts;
   kind = joined_all kinds.Nothing ts;

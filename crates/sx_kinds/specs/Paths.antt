@@ -15,7 +15,7 @@ use Rattle.sx_kinds.specs.declared.types.Start.TheVariants as starts
 use Rattle.sx_kinds.specs.declared.types.Ty.{Ty}
 use Rattle.sx_kinds.specs.declared.types.TyKind.TheVariants as kinds
 use Rattle.sx_kinds.specs.declared.types.Typing.{Typing}
-use Rattle.sx_kinds.specs.Kinds.{is_atomic, joined, tested}
+use Rattle.sx_kinds.specs.Kinds.{is_atomic, joined_kind, tested}
 use Rattle.sx_kinds.specs.Origins.{is_source, is_one, is_forest, is_same_origin, item_of}
 use Rattle.sx_kinds.specs.Parts.{is_step, is_copy, is_per_item, is_same_start, origins}
 
@@ -25,8 +25,8 @@ or_source None = Source
 or_source (Some o) = o
 
 -- operands behind commas (XPath 3.1, 3.4.1)
-abbrev pub comma : Parts → Ty
-comma parts = record { kind = parts.kind; at_most_one = false; origin = or_source parts.origin }
+abbrev pub comma_type : Parts → Ty
+comma_type parts = record { kind = parts.kind; at_most_one = false; origin = or_source parts.origin }
 
 -- the origin of a choice: what both branches have
 abbrev pub choice_origin : List Origin → Origin
@@ -37,14 +37,14 @@ choice_origin _ = Source
 -- a choice between two branches (3.10)
 abbrev pub choice : Typing → Typing → Ty
 choice a b = record {
-  kind = joined a.ty.kind b.ty.kind;
+  kind = joined_kind a.ty.kind b.ty.kind;
   at_most_one = a.ty.at_most_one && b.ty.at_most_one;
   origin = choice_origin (origins (a ∷ b ∷ []));
 }
 
 -- what a `for` returns for each item (3.9.1)
-abbrev pub returned : Ty → Ty → Ty
-returned over t = record {
+abbrev pub returned_type : Ty → Ty → Ty
+returned_type over t = record {
   kind = t.kind;
   at_most_one = over.at_most_one && t.at_most_one;
   origin = if is_source t.origin then Source else Forest;
@@ -63,7 +63,7 @@ union_origin same _ = Err codes.Sxst0003
 abbrev pub union : Typing → Typing → Result Ty Code
 union a b = do
   origin ← union_origin (is_same_start a.start b.start) (origins (a ∷ b ∷ []))
-  Ok (record { kind = joined a.ty.kind b.ty.kind; at_most_one = false; origin = origin })
+  Ok (record { kind = joined_kind a.ty.kind b.ty.kind; at_most_one = false; origin = origin })
 
 -- the origin of what is evaluated for each item of the left side: the first rule that applies
 abbrev pub path_origin : Ty → Typing → Origin
@@ -73,8 +73,8 @@ path_origin left right =
     if is_copy right.shape then Separate else Forest
 
 -- what is evaluated for each item of the left side (3.3, 3.14)
-abbrev pub along : Ty → Typing → Ty
-along left right = record {
+abbrev pub type_along : Ty → Typing → Ty
+type_along left right = record {
   kind = right.ty.kind;
   at_most_one = left.at_most_one && right.ty.at_most_one;
   origin = path_origin left right;
@@ -86,19 +86,19 @@ names_one (tests.Name n) = true
 names_one (tests.Attribute (Some n)) = true
 names_one _ = false
 
--- a step (3.3.2)
-abbrev pub step : Ty → Axis → NodeTest → Ty
-step context axes.Attribute test =
+-- a step_type (3.3.2)
+abbrev pub step_type : Ty → Axis → NodeTest → Ty
+step_type context axes.Attribute test =
     record { kind = kinds.Attribute; at_most_one = names_one test; origin = context.origin }
-step context axes.SelfNode test = record { kind = tested test; at_most_one = true; origin = context.origin }
-step context axes.Parent test = record { kind = tested test; at_most_one = true; origin = context.origin }
-step context _ test = record { kind = tested test; at_most_one = false; origin = context.origin }
+step_type context axes.SelfNode test = record { kind = tested test; at_most_one = true; origin = context.origin }
+step_type context axes.Parent test = record { kind = tested test; at_most_one = true; origin = context.origin }
+step_type context _ test = record { kind = tested test; at_most_one = false; origin = context.origin }
 
 -- the nodes at and below those of the left side
 abbrev pub descendants : Ty → Ty
 descendants left =
-    along left (record {
-      ty = step (item_of left) axes.DescendantOrSelf tests.Node;
+    type_along left (record {
+      ty = step_type (item_of left) axes.DescendantOrSelf tests.Node;
       shape = shapes.Step;
       deep = false;
       start = starts.Context;
@@ -112,4 +112,4 @@ path left right =
     if is_atomic left.ty.kind then Err codes.Xpty0004 else
     if is_forest left.ty.origin && not (is_per_item left.shape) && (right.deep || is_step right.shape)
     then Err codes.Sxst0003 else
-    Ok (along (if right.deep then descendants left.ty else left.ty) right)
+    Ok (type_along (if right.deep then descendants left.ty else left.ty) right)

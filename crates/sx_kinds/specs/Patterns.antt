@@ -1,7 +1,7 @@
--- Settled patterns: each alternative is settled as an expression is (XSLT 3.0, 5.5).
+-- Settled patterns: each alternative is settled_expression as an expression is (XSLT 3.0, 5.5).
 use Rattle.std.specs.Prelude.{◌≡◌, List, [], ◌∷◌, Result, Ok, Err}
 use Rattle.sx_atoms.specs.declared.error_codes.Code.{Code}
-use Rattle.sx_kinds.specs.Settled.{Place, settled}
+use Rattle.sx_kinds.specs.Settled.{TypingPlace, settled_expression}
 use Rattle.sx_kinds.specs.Types.{typing}
 use Rattle.sx_kinds.specs.declared.expressions.Expr.{Expr}
 use Rattle.sx_kinds.specs.declared.expressions.Pattern.{Pattern}
@@ -19,20 +19,20 @@ have_types context (Err code) es = Err code
 have_types context (Ok all) [] = Ok all
 have_types context (Ok all) (e ∷ es) = have_types context (has_type (typing e context)) es
 
--- expressions settled in one place, up to and with the first that has a code; those behind that one are as they were
-abbrev pub settled_each : Place → Result (Unit {0}) Code → List Expr → List Expr
+-- expressions settled_expression in one place, up to and with the first that has a code; those behind that one are as they were
+abbrev pub settled_each : TypingPlace → Result (Unit {0}) Code → List Expr → List Expr
 settled_each here (Err code) es = es
 settled_each here (Ok all) [] = []
 settled_each here (Ok all) (e ∷ es) =
-    settled e here ∷ settled_each here (has_type (typing (settled e here) here.context)) es
+    settled_expression e here ∷ settled_each here (has_type (typing (settled_expression e here) here.context)) es
 
--- a pattern settled in a place
-abbrev pub settled_pattern : Pattern → Place → Pattern
+-- a pattern settled_expression in a place
+abbrev pub settled_pattern : Pattern → TypingPlace → Pattern
 settled_pattern pattern here =
     record pattern { alternatives = settled_each here (Ok tt) pattern.alternatives }
 
--- a pattern is settled in a place where settling it there changes nothing
-abbrev pub IsSettledPattern : Pattern → Place → Type 0
+-- a pattern is settled_expression in a place where settling it there changes nothing
+abbrev pub IsSettledPattern : Pattern → TypingPlace → Type 0
 IsSettledPattern pattern here = settled_pattern pattern here ≡ pattern
 
 -- whether the alternatives of a pattern have types in a context, or the first code of one

@@ -1,4 +1,4 @@
--- The static type of an expression in its context: the kind of the items, whether there is at most one, and the origin of
+-- The static type of an expression in its context: the kind of the items, whether there is at most one_of_kind, and the origin of
 -- the nodes (XPath 3.1, 2.3.1 and 2.5; XSLT 3.0, 19.1).
 use Rattle.std.specs.Prelude.{Bool, true, false, if◌then◌else◌, ◌||◌, List, [], ◌∷◌, ◌++◌, Option, Some, Result, Ok}
 use Rattle.sx_atoms.specs.Numbers.{◌>>=◌}
@@ -19,57 +19,57 @@ use Rattle.sx_kinds.specs.declared.types.Start.TheVariants as starts
 use Rattle.sx_kinds.specs.declared.types.Ty.{Ty}
 use Rattle.sx_kinds.specs.declared.types.TyKind.TheVariants as kinds
 use Rattle.sx_kinds.specs.declared.types.Typing.{Typing}
-pub use Rattle.sx_kinds.specs.Kinds.{rank, is_node, is_atomic, may_be_node, may_be_number, joined, atomised}
+pub use Rattle.sx_kinds.specs.Kinds.{rank, is_node, is_atomic, may_be_node, may_be_number, joined_kind, atomised}
 pub use Rattle.sx_kinds.specs.Kinds.{as_number, extreme, signed, mixed, reckoned, summed, kind_of}
 pub use Rattle.sx_kinds.specs.Kinds.{kind_of_atom, tested}
-pub use Rattle.sx_kinds.specs.Origins.{one, many, is_source, is_one, is_separate, is_forest, is_same_origin}
-pub use Rattle.sx_kinds.specs.Origins.{item_of, below, is_deep}
-pub use Rattle.sx_kinds.specs.Parts.{missing, there, first_of, second_of, third_of, is_step, is_child_step}
+pub use Rattle.sx_kinds.specs.Origins.{one_of_kind, many, is_source, is_one, is_separate, is_forest, is_same_origin}
+pub use Rattle.sx_kinds.specs.Origins.{item_of, type_below, is_deep}
+pub use Rattle.sx_kinds.specs.Parts.{missing, there, first_typing, second_of, third_of, is_step, is_child_step}
 pub use Rattle.sx_kinds.specs.Parts.{is_copy, is_per_item, is_positional, is_same_start, joined_start}
 pub use Rattle.sx_kinds.specs.Parts.{start_through, start_outside, origins, all_source, comma_origin}
-pub use Rattle.sx_kinds.specs.Parts.{joined_all, start_of_all, parts_of}
-pub use Rattle.sx_kinds.specs.Paths.{or_source, comma, choice_origin, choice, returned, union_origin, union}
-pub use Rattle.sx_kinds.specs.Paths.{path_origin, along, names_one, step, descendants, path}
-pub use Rattle.sx_kinds.specs.Calls.{text_call, copied, seq_call, called, argument, called_shape}
+pub use Rattle.sx_kinds.specs.Parts.{joined_all, start_of_all, parts_of_typings}
+pub use Rattle.sx_kinds.specs.Paths.{or_source, comma_type, choice_origin, choice, returned_type, union_origin, union}
+pub use Rattle.sx_kinds.specs.Paths.{path_origin, type_along, names_one, step_type, descendants, path}
+pub use Rattle.sx_kinds.specs.Calls.{text_call_type, copied, seq_call_type, called, argument_type, called_shape}
 pub use Rattle.sx_kinds.specs.Calls.{called_start, is_count}
 
 -- the type of an expression, by its form and what is known of its parts; or the code of a construct that has none
 abbrev pub type_by : ExprForm → Ty → Parts → Result Ty Code
-type_by forms.Comma context parts = Ok (comma parts)
-type_by (forms.For x) context parts = Ok (returned (there parts.first).ty (there parts.second).ty)
+type_by forms.Comma context parts = Ok (comma_type parts)
+type_by (forms.For x) context parts = Ok (returned_type (there parts.first).ty (there parts.second).ty)
 type_by (forms.Let x) context parts = Ok (there parts.second).ty
-type_by (forms.Some x) context parts = Ok (one kinds.Boolean)
-type_by (forms.Every x) context parts = Ok (one kinds.Boolean)
+type_by (forms.Some x) context parts = Ok (one_of_kind kinds.Boolean)
+type_by (forms.Every x) context parts = Ok (one_of_kind kinds.Boolean)
 type_by forms.If context parts = Ok (choice (there parts.second) (there parts.third))
-type_by forms.Or context parts = Ok (one kinds.Boolean)
-type_by forms.And context parts = Ok (one kinds.Boolean)
-type_by (forms.Compare op general) context parts = Ok (one kinds.Boolean)
-type_by forms.Concat context parts = Ok (one kinds.Str)
+type_by forms.Or context parts = Ok (one_of_kind kinds.Boolean)
+type_by forms.And context parts = Ok (one_of_kind kinds.Boolean)
+type_by (forms.Compare op general) context parts = Ok (one_of_kind kinds.Boolean)
+type_by forms.Concat context parts = Ok (one_of_kind kinds.Str)
 type_by forms.Range context parts = Ok (many kinds.Integer)
 type_by (forms.Arith op) context parts =
-    Ok (one (reckoned op (there parts.first).ty.kind (there parts.second).ty.kind))
-type_by (forms.Unary minus) context parts = Ok (one (signed (as_number (there parts.first).ty.kind)))
+    Ok (one_of_kind (reckoned op (there parts.first).ty.kind (there parts.second).ty.kind))
+type_by (forms.Unary minus) context parts = Ok (one_of_kind (signed (as_number (there parts.first).ty.kind)))
 type_by forms.Union context parts = union (there parts.first) (there parts.second)
-type_by (forms.Castable type optional) context parts = Ok (one kinds.Boolean)
-type_by (forms.Cast type optional) context parts = Ok (one (kind_of type))
-type_by forms.Map context parts = Ok (along (there parts.first).ty (there parts.second))
+type_by (forms.Castable type optional) context parts = Ok (one_of_kind kinds.Boolean)
+type_by (forms.Cast type optional) context parts = Ok (one_of_kind (kind_of type))
+type_by forms.Map context parts = Ok (type_along (there parts.first).ty (there parts.second))
 type_by (forms.Path per_item) context parts = path (there parts.first) (there parts.second)
-type_by (forms.Step axis test) context parts = Ok (step context axis test)
+type_by (forms.Step axis test) context parts = Ok (step_type context axis test)
 type_by forms.Filter context parts = Ok (there parts.first).ty
-type_by (forms.Literal atom) context parts = Ok (one (kind_of_atom atom))
+type_by (forms.Literal atom) context parts = Ok (one_of_kind (kind_of_atom atom))
 type_by (forms.Var x ty) context parts = Ok ty
-type_by forms.Empty context parts = Ok (one kinds.Nothing)
+type_by forms.Empty context parts = Ok (one_of_kind kinds.Nothing)
 type_by forms.Dot context parts = Ok (record context { at_most_one = true })
 type_by forms.Root context parts =
     Ok (record { kind = kinds.Document; at_most_one = true; origin = context.origin })
-type_by (forms.Call f ty accumulator) context parts = Ok (called f ty (argument context parts.first))
+type_by (forms.Call f ty accumulator) context parts = Ok (called f ty (argument_type context parts.first))
 
 -- what a path with this left side is to what stands around it
 abbrev pub path_shape : Typing → Shape
 path_shape left =
     if is_separate left.ty.origin || is_per_item left.shape then shapes.PerItem else shapes.Other
 
--- what a step is to what stands around it, by whether it has a positional predicate
+-- what a step_type is to what stands around it, by whether it has a positional predicate
 abbrev pub step_shape : Axis → Bool → Shape
 step_shape axes.Child positional = if positional then shapes.Step else shapes.ChildStep
 step_shape _ positional = shapes.Step
@@ -99,7 +99,7 @@ start_by forms.Root parts = starts.Context
 start_by (forms.Call f ty accumulator) parts = called_start f (there parts.first).start
 start_by _ parts = starts.Nowhere
 
--- whether an expression calls `position()` or `last()` in its own focus: the right side of a path has another one, and so
+-- whether an expression calls `position()` or `last()` in its own focus: the right side of a path has another one_of_kind, and so
 -- have predicates
 abbrev pub counts_by : ExprForm → Parts → Bool
 counts_by forms.Map parts = (there parts.first).counts
@@ -121,27 +121,27 @@ known_by form deep context parts = do
     counts = counts_by form parts;
   })
 
--- the context of a part, by what is known of the first one before it: the left side's item for the right side of a path, an
+-- the context of a part, by what is known of the first one_of_kind before it: the left side's item for the right side of a path, an
 -- item of what is filtered for a predicate (3.3.2, 3.2), and else that of the whole
 abbrev pub focus : ExprForm → Ty → Option Typing → Ty
 focus forms.Map context (Some t) = item_of t.ty
 focus (forms.Path per_item) context (Some t) = item_of t.ty
-focus (forms.Step axis test) context before = item_of (step context axis test)
+focus (forms.Step axis test) context before = item_of (step_type context axis test)
 focus forms.Filter context (Some t) = item_of t.ty
 focus _ context before = context
 
--- what is known of parts, each in its focus, or the first code of one
+-- what is known of parts, each in its focus, or the first code of one_of_kind
 abbrev pub each : ExprForm → Ty → List Typing → List (Ty → Result Typing Code) → Result (List Typing) Code
 each form context before [] = Ok before
 each form context before (part ∷ parts) = do
-  t ← part (focus form context (first_of before))
+  t ← part (focus form context (first_typing before))
   each form context (before ++ t ∷ []) parts
 
 -- what is known of an expression in a context: the codes of its parts come before its own
 abbrev pub known : Expr-F (Ty → Result Typing Code) → Ty → Result Typing Code
 known e outer = do
-  parts ← each e.form (below e.deep outer) [] e.parts
-  known_by e.form e.deep (below e.deep outer) (parts_of parts)
+  parts ← each e.form (type_below e.deep outer) [] e.parts
+  known_by e.form e.deep (type_below e.deep outer) (parts_of_typings parts)
 
 -- what is known of each expression in each context
 unfoldable pub typing : Expr → Ty → Result Typing Code

@@ -36,11 +36,11 @@ abbrev pub first_or : Expr → List Expr → Expr
 first_or e [] = e
 first_or e (first ∷ rest) = first
 
--- the next one on the way, or this one at its end
-abbrev pub next : Way → Expr → Expr
-next way e = if goes_on way (out-Expr e).form (out-Expr e).deep then first_or e (out-Expr e).parts else e
+-- the next_below one on the way, or this one at its end
+abbrev pub next_below : Way → Expr → Expr
+next_below way e = if goes_on way (out-Expr e).form (out-Expr e).deep then first_or e (out-Expr e).parts else e
 
 -- the expression so many first parts below this one, or the last one on that way
 abbrev pub front : Way → ℕ → Expr → Expr
 front way zero e = e
-front way (suc n) e = front way n (next way e)
+front way (suc n) e = front way n (next_below way e)

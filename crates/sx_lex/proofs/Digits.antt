@@ -10,7 +10,7 @@ use Rattle.std.specs.List.{list_all, count_by, prefix_len}
 use Rattle.std.specs.Prelude.{is_some}
 use Rattle.std.specs.Str.{IsUtf8}
 use Rattle.sx_lex.specs.Fronts.{IsToken, begins_name, begins_number}
-use Rattle.sx_lex.specs.Tokens.{is_quote, is_point, is_integer, is_decimal, kind_of}
+use Rattle.sx_lex.specs.Tokens.{is_quote, is_point, is_integer, is_decimal_literal, kind_of}
 use Rattle.sx_lex.specs.declared.kinds.TokenKind.TheVariants as kind
 use Rattle.sx_lex.proofs.Firsts.{kind_by, kind_is, no_name, no_wild, no_literal}
 use Rattle.sx_lex.proofs.Fronts.{boundary_behind, all_pass}
@@ -51,7 +51,7 @@ one_point b bs point =
 
 -- the kind of a text that begins with a number
 number_kind : (s : List ℕ) (m : ℕ) (integer decimal : Bool) → begins_number s ≡ true → 0 < m → (is_ascii_digit (get_or s 0 0) ≡ false → 1 < m)
-    → is_integer (take m s) ≡ integer → is_decimal (take m s) ≡ decimal → kind_of (take m s) ≡ kind_by false false integer decimal false false
+    → is_integer (take m s) ≡ integer → is_decimal_literal (take m s) ≡ decimal → kind_of (take m s) ≡ kind_by false false integer decimal false false
 number_kind s m integer decimal begins some more i d =
     let first = get_or-take m s 0 0 some in
     let b = get_or (take m s) 0 0 in
@@ -95,7 +95,7 @@ no_integer_past s at m below within other =
     and_left (list_all is_ascii_digit (take m s)) (ltb 0 (length (take m s)))
     (list_all_at is_ascii_digit (take m s) at 0 (let size = length-take-le m s within in omega arith) (ap is_ascii_digit (get_or-take m s at 0 below) ∙ other))
 
-no_decimal_past : (s : List ℕ) (at m : ℕ) → at < m → m ≤ length s → in_number (get_or s at 0) ≡ false → is_decimal (take m s) ≡ false
+no_decimal_past : (s : List ℕ) (at m : ℕ) → at < m → m ≤ length s → in_number (get_or s at 0) ≡ false → is_decimal_literal (take m s) ≡ false
 no_decimal_past s at m below within other =
     and_left (list_all in_number (take m s) && eqb (count_by is_point (take m s)) 1) (ltb 1 (length (take m s)))
     (and_left (list_all in_number (take m s)) (eqb (count_by is_point (take m s)) 1)
@@ -120,7 +120,7 @@ integer_token s n text begins size stop =
     let all : is_integer (take n s) ≡ true =
     ap (λ (k : ℕ). is_integer (take k s)) size
     ∙ and_from (list_all is_ascii_digit (take (digits s) s)) (ltb 0 (length (take (digits s) s))) (all_digits s) (lt-ltb 0 (length (take (digits s) s)) (omega (arith, length-take-le (digits s) s within))) in
-    let is : kind_of (take n s) ≡ Some kind.Integer = number_kind s n true (is_decimal (take n s)) begins some (λ no. absurd (both_ways (is_ascii_digit (get_or s 0 0)) no first)) all refl in record {
+    let is : kind_of (take n s) ≡ Some kind.Integer = number_kind s n true (is_decimal_literal (take n s)) begins some (λ no. absurd (both_ways (is_ascii_digit (get_or s 0 0)) no first)) all refl in record {
       longest = record {
         boundary = boundary_behind s n text (omega arith) (λ _. digit_low (get_or s (n - 1) 0) (or_left (is_ascii_digit (get_or s (n - 1) 0)) (is_point (get_or s (n - 1) 0)) (prefix_len_passes is_ascii_digit s (n - 1) 0 (omega arith))));
         token = ap is_some is;
@@ -234,7 +234,7 @@ module _ (s : List ℕ) (w f : ℕ) (text : IsUtf8 s) (begins : begins_number s 
         omega arith
   ]
 
-  two_points : (m : ℕ) → w + 1 + f < m → m ≤ length s → is_point (get_or s (w + 1 + f) 0) ≡ true → is_decimal (take m s) ≡ false
+  two_points : (m : ℕ) → w + 1 + f < m → m ≤ length s → is_point (get_or s (w + 1 + f) 0) ≡ true → is_decimal_literal (take m s) ≡ false
   two_points m long up again =
       let n = w + 1 + f in
       let a = ap (λ (k : ℕ). count_by is_point (take k s)) (let z : m ≡ n + 1 + (m - n - 1) = omega arith in z) in
@@ -244,7 +244,7 @@ module _ (s : List ℕ) (w f : ℕ) (text : IsUtf8 s) (begins : begins_number s 
       and_left (list_all in_number (take m s) && eqb (count_by is_point (take m s)) 1) (ltb 1 (length (take m s)))
       (and_right (list_all in_number (take m s)) (eqb (count_by is_point (take m s)) 1) (ne_eqb (count_by is_point (take m s)) 1 (λ one. omega (arith, a, b, c, d, decimal_count, one))))
 
-  no_longer : (m : ℕ) → w + 1 + f < m → m ≤ length s → is_decimal (take m s) ≡ false
+  no_longer : (m : ℕ) → w + 1 + f < m → m ≤ length s → is_decimal_literal (take m s) ≡ false
   no_longer m long up =
       let n = w + 1 + f in
       let room = length-drop (w + 1) s in
@@ -263,7 +263,7 @@ module _ (s : List ℕ) (w f : ℕ) (text : IsUtf8 s) (begins : begins_number s 
       let some = size_some in
       let fits = decimal_within in
       let size = length-take-le n s fits in
-      let decimal : is_decimal (take n s) ≡ true =
+      let decimal : is_decimal_literal (take n s) ≡ true =
       and_from (list_all in_number (take n s) && eqb (count_by is_point (take n s)) 1) (ltb 1 (length (take n s)))
       (and_from (list_all in_number (take n s)) (eqb (count_by is_point (take n s)) 1) decimal_all (eq-eqb (count_by is_point (take n s)) 1 decimal_count))
       (lt-ltb 1 (length (take n s)) (omega arith)) in

@@ -11,7 +11,7 @@ use Rattle.std.specs.Prelude.{bytes_eq, codes}
 use Rattle.std.specs.Str.{chars, chars_after}
 use Rattle.sx_chars.specs.Names.{is_first, is_further, are_name, is_ncname, is_qname_with, before, behind}
 use Rattle.sx_lex.specs.Fronts.{begins_name, begins_number}
-use Rattle.sx_lex.specs.Tokens.{is_name, is_wild, are_wild, is_integer, is_point, is_decimal, is_quote, closes, is_literal, is_mark, kind_of}
+use Rattle.sx_lex.specs.Tokens.{is_name, is_wild, are_wild, is_integer, is_point, is_decimal_literal, is_quote, closes, is_literal, is_mark, kind_of}
 use Rattle.sx_lex.specs.declared.kinds.TokenKind.{TokenKind}
 use Rattle.sx_lex.specs.declared.kinds.TokenKind.TheVariants as kind
 
@@ -24,13 +24,13 @@ kind_by name wild integer decimal literal mark =
     )
     )
 
-pub kind_is : (t : List ℕ) (a b c d e f : Bool) → is_name t ≡ a → is_wild t ≡ b → is_integer t ≡ c → is_decimal t ≡ d → is_literal t ≡ e → is_mark t ≡ f
+pub kind_is : (t : List ℕ) (a b c d e f : Bool) → is_name t ≡ a → is_wild t ≡ b → is_integer t ≡ c → is_decimal_literal t ≡ d → is_literal t ≡ e → is_mark t ≡ f
     → kind_of t ≡ kind_by a b c d e f
 unfolding kind_of
 kind_is t a b c d e f name wild integer decimal literal mark =
-    ap (λ (x : Bool). kind_by x (is_wild t) (is_integer t) (is_decimal t) (is_literal t) (is_mark t)) name
-    ∙ ap (λ (x : Bool). kind_by a x (is_integer t) (is_decimal t) (is_literal t) (is_mark t)) wild
-    ∙ ap (λ (x : Bool). kind_by a b x (is_decimal t) (is_literal t) (is_mark t)) integer
+    ap (λ (x : Bool). kind_by x (is_wild t) (is_integer t) (is_decimal_literal t) (is_literal t) (is_mark t)) name
+    ∙ ap (λ (x : Bool). kind_by a x (is_integer t) (is_decimal_literal t) (is_literal t) (is_mark t)) wild
+    ∙ ap (λ (x : Bool). kind_by a b x (is_decimal_literal t) (is_literal t) (is_mark t)) integer
     ∙ ap (λ (x : Bool). kind_by a b c x (is_literal t) (is_mark t)) decimal
     ∙ ap (λ (x : Bool). kind_by a b c d x (is_mark t)) literal
     ∙ ap (λ (x : Bool). kind_by a b c d e x) mark
@@ -135,7 +135,7 @@ pub no_integer : (t : List ℕ) → is_ascii_digit (get_or t 0 0) ≡ false → 
 no_integer [] other = refl
 no_integer (b ∷ bs) other = ap (λ (v : Bool). (v && list_all is_ascii_digit bs) && ltb 0 (length (b ∷ bs))) other
 
-pub no_decimal : (t : List ℕ) → is_ascii_digit (get_or t 0 0) ≡ false → is_point (get_or t 0 0) ≡ false → is_decimal t ≡ false
+pub no_decimal : (t : List ℕ) → is_ascii_digit (get_or t 0 0) ≡ false → is_point (get_or t 0 0) ≡ false → is_decimal_literal t ≡ false
 no_decimal [] other point = refl
 no_decimal (b ∷ bs) other point =
     ap (λ (v : Bool). ((v || is_point b) && list_all (λ c. is_ascii_digit c || is_point c) bs) && eqb (count_by is_point (b ∷ bs)) 1 && ltb 1 (length (b ∷ bs))) other
@@ -154,11 +154,11 @@ points b d r first second =
     let h : ◌≡◌ {A = ℕ} (cond (is_point d) 1 0) 1 = ap {B = ℕ} (λ (v : Bool). cond v 1 0) second in
     ne_eqb (count_by is_point (b ∷ d ∷ r)) 1 (λ same. omega (arith, e, f, g, h, same))
 
-short_decimal : (t : List ℕ) → length t ≤ 1 → is_decimal t ≡ false
+short_decimal : (t : List ℕ) → length t ≤ 1 → is_decimal_literal t ≡ false
 short_decimal t short =
     and_right (list_all (λ c. is_ascii_digit c || is_point c) t && eqb (count_by is_point t) 1) (ltb 1 (length t)) (le-ltb 1 (length t) short)
 
-bare_point : (t : List ℕ) → is_ascii_digit (get_or t 0 0) ≡ false → (is_point (get_or t 0 0) && is_ascii_digit (get_or t 1 0)) ≡ false → is_decimal t ≡ false
+bare_point : (t : List ℕ) → is_ascii_digit (get_or t 0 0) ≡ false → (is_point (get_or t 0 0) && is_ascii_digit (get_or t 1 0)) ≡ false → is_decimal_literal t ≡ false
 bare_point [] other bare = refl
 bare_point (b ∷ []) other bare = short_decimal (b ∷ []) (omega arith)
 bare_point (b ∷ d ∷ r) other bare = elim (and_cases (is_point b) (is_ascii_digit d) bare) [
@@ -169,7 +169,7 @@ bare_point (b ∷ d ∷ r) other bare = elim (and_cases (is_point b) (is_ascii_d
     rest : Bool
     rest = list_all (λ c. is_ascii_digit c || is_point c) r
 
-    by : (v : Bool) → is_point d ≡ v → is_ascii_digit d ≡ false → is_decimal (b ∷ d ∷ r) ≡ false
+    by : (v : Bool) → is_point d ≡ v → is_ascii_digit d ≡ false → is_decimal_literal (b ∷ d ∷ r) ≡ false
     by false e digit =
         and_left ((list_all (λ c. is_ascii_digit c || is_point c) (b ∷ d ∷ r)) && eqb (count_by is_point (b ∷ d ∷ r)) 1) (ltb 1 (length (b ∷ d ∷ r)))
         (and_left (list_all (λ c. is_ascii_digit c || is_point c) (b ∷ d ∷ r)) (eqb (count_by is_point (b ∷ d ∷ r)) 1)
@@ -177,14 +177,14 @@ bare_point (b ∷ d ∷ r) other bare = elim (and_cases (is_point b) (is_ascii_d
         (and_left (is_ascii_digit d || is_point d) (list_all (λ c. is_ascii_digit c || is_point c) r) (or_from (is_ascii_digit d) (is_point d) digit e))))
     by true e digit = first (is_point b) refl
       where
-        first : (v : Bool) → is_point b ≡ v → is_decimal (b ∷ d ∷ r) ≡ false
+        first : (v : Bool) → is_point b ≡ v → is_decimal_literal (b ∷ d ∷ r) ≡ false
         first false f = no_decimal (b ∷ d ∷ r) other f
         first true f =
             and_left (list_all (λ c. is_ascii_digit c || is_point c) (b ∷ d ∷ r) && eqb (count_by is_point (b ∷ d ∷ r)) 1) (ltb 1 (length (b ∷ d ∷ r)))
             (and_right (list_all (λ c. is_ascii_digit c || is_point c) (b ∷ d ∷ r)) (eqb (count_by is_point (b ∷ d ∷ r)) 1) (points b d r f e))
 
 -- no front of a text is a number that does not begin with one
-pub no_number : (s : List ℕ) (m : ℕ) → 0 < m → begins_number s ≡ false → is_decimal (take m s) ≡ false
+pub no_number : (s : List ℕ) (m : ℕ) → 0 < m → begins_number s ≡ false → is_decimal_literal (take m s) ≡ false
 no_number s m some other =
     let parts = or_parts (is_ascii_digit (get_or s 0 0)) (is_point (get_or s 0 0) && is_ascii_digit (get_or s 1 0)) other in
     elim (cases_lt 1 m) [

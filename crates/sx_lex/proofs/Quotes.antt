@@ -6,7 +6,7 @@ use Rattle.std.proofs.lemmas.List.{drop_more, drop-drop}
 use Rattle.std.specs.Char.{is_ascii_digit}
 use Rattle.std.specs.Prelude.{is_some}
 use Rattle.std.specs.Str.{IsUtf8}
-use Rattle.sx_lex.specs.Fronts.{IsFront, IsToken, IsQuoteFree, begins_name}
+use Rattle.sx_lex.specs.Fronts.{IsLongestFront, IsToken, IsQuoteFree, begins_name}
 use Rattle.sx_lex.specs.Tokens.{closes, is_quote, is_point, is_literal, kind_of, NoToken}
 use Rattle.sx_lex.specs.declared.kinds.TokenKind.TheVariants as kind
 use Rattle.sx_lex.proofs.Firsts.{kind_by, kind_is, no_name, no_wild, no_integer, no_decimal}
@@ -90,7 +90,7 @@ quote_ascii s q size place quote inside within =
     omega arith
 
 -- a quote that is not doubled ends the literal
-pub inside_ends : (s : List ℕ) (q size place : ℕ) → is_quote q ≡ true → IsInside s q size place → place < length s → (place + 1 < length s → get_or s (place + 1) 0 ≢ q) → IsFront is_literal s (place + 1)
+pub inside_ends : (s : List ℕ) (q size place : ℕ) → is_quote q ≡ true → IsInside s q size place → place < length s → (place + 1 < length s → get_or s (place + 1) 0 ≢ q) → IsLongestFront is_literal s (place + 1)
 inside_ends s q size place quote inside within apart = record {
   within = omega arith;
   ascii = λ _. quote_ascii s q size place quote inside within;
@@ -139,7 +139,7 @@ inside_goes_on s q size place d quote inside within second found =
     }
 
 -- where the text ends, the literal has the size that the last of its quotes says
-pub inside_at_end : (s : List ℕ) (q size place : ℕ) → IsInside s q size place → length s ≤ place → IsFront is_literal s size
+pub inside_at_end : (s : List ℕ) (q size place : ℕ) → IsInside s q size place → length s ≤ place → IsLongestFront is_literal s size
 inside_at_end s q size place inside past =
     let order = inside.order in
     let within = inside.within in record {
@@ -175,10 +175,10 @@ quote_kind s m literal quote some is =
     no_point : (b : ℕ) → is_quote b ≡ true → is_point b ≡ false
     no_point b quote = grind (arith, nat_tests)
 
-pub literal_none : (s : List ℕ) → is_quote (get_or s 0 0) ≡ true → IsFront is_literal s 0 → NoToken s
+pub literal_none : (s : List ℕ) → is_quote (get_or s 0 0) ≡ true → IsLongestFront is_literal s 0 → NoToken s
 literal_none s quote front = λ size some cut. quote_kind s size false quote some (front.longest size some cut.0)
 
-pub literal_some : (s : List ℕ) (n : ℕ) → IsUtf8 s → is_quote (get_or s 0 0) ≡ true → 0 < n → IsFront is_literal s n → IsToken s kind.Str n
+pub literal_some : (s : List ℕ) (n : ℕ) → IsUtf8 s → is_quote (get_or s 0 0) ≡ true → 0 < n → IsLongestFront is_literal s n → IsToken s kind.Str n
 literal_some s n text quote some front =
     let is : kind_of (take n s) ≡ Some kind.Str = quote_kind s n true quote some (front.is some) in record {
       longest = record {

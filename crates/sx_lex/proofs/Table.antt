@@ -10,8 +10,8 @@ use Rattle.std.specs.List.{list_all, list_any}
 use Rattle.std.specs.Prelude.{bytes_eq, codes}
 use Rattle.std.specs.Prelude.{Some, is_some}
 use Rattle.std.specs.Str.{IsUtf8}
-use Rattle.sx_lex.specs.Fronts.{IsFront, IsToken, begins_name, begins_number}
-use Rattle.sx_lex.specs.Tokens.{is_mark, is_quote, is_point, marks, kind_of, NoToken}
+use Rattle.sx_lex.specs.Fronts.{IsLongestFront, IsToken, begins_name, begins_number}
+use Rattle.sx_lex.specs.Tokens.{is_mark, is_quote, is_point, mark_texts, kind_of, NoToken}
 use Rattle.sx_lex.specs.declared.kinds.TokenKind.TheVariants as kind
 use Rattle.sx_lex.proofs.Fronts.{boundary_behind}
 use Rattle.sx_lex.proofs.Firsts.{kind_by, kind_is, no_name, no_wild, no_integer, no_number, no_literal}
@@ -26,15 +26,15 @@ among (m ∷ ms) passes t all any =
     ]
 
 -- what passes of each mark of the table
-pub marked : (passes : List ℕ → Bool) → list_all passes marks ≡ true → (t : List ℕ) → is_mark t ≡ true → passes t ≡ true
+pub marked : (passes : List ℕ → Bool) → list_all passes mark_texts ≡ true → (t : List ℕ) → is_mark t ≡ true → passes t ≡ true
 unfolding is_mark
-marked passes all t mark = among marks passes t all mark
+marked passes all t mark = among mark_texts passes t all mark
 
-pub unmarked : (passes : List ℕ → Bool) → list_all passes marks ≡ true → (t : List ℕ) → passes t ≡ false → is_mark t ≡ false
+pub unmarked : (passes : List ℕ → Bool) → list_all passes mark_texts ≡ true → (t : List ℕ) → passes t ≡ false → is_mark t ≡ false
 unmarked passes all t other = false_from_ne_true (is_mark t) (λ mark. both_ways (passes t) other (marked passes all t mark))
 
 -- no mark begins as a name, a number of digits or a literal does
-pub no_mark_by : (begins : ℕ → Bool) → list_all (λ m. not (begins (get_or m 0 0))) marks ≡ true → (t : List ℕ) → begins (get_or t 0 0) ≡ true → is_mark t ≡ false
+pub no_mark_by : (begins : ℕ → Bool) → list_all (λ m. not (begins (get_or m 0 0))) mark_texts ≡ true → (t : List ℕ) → begins (get_or t 0 0) ≡ true → is_mark t ≡ false
 no_mark_by begins all t so = unmarked (λ m. not (begins (get_or m 0 0))) all t (not_from_true (begins (get_or t 0 0)) so)
 
 -- a mark has one byte or two
@@ -73,7 +73,7 @@ apart a b equals same =
 pub mark_ascii : (t : List ℕ) → is_mark t ≡ true → list_all (λ b. nat_lt b 128) t ≡ true
 mark_ascii t mark = marked (λ m. list_all (λ b. nat_lt b 128) m) refl t mark
 
-pub double_front : (s : List ℕ) → 2 ≤ length s → is_mark (get_or s 0 0 ∷ get_or s 1 0 ∷ []) ≡ true → IsFront is_mark s 2
+pub double_front : (s : List ℕ) → 2 ≤ length s → is_mark (get_or s 0 0 ∷ get_or s 1 0 ∷ []) ≡ true → IsLongestFront is_mark s 2
 double_front s some mark = record {
   within = some;
   ascii = λ _. let parts = mark_ascii (get_or s 0 0 ∷ get_or s 1 0 ∷ []) mark in
@@ -83,7 +83,7 @@ double_front s some mark = record {
   longest = λ more long within. long_mark s more long within;
 }
 
-pub single_front : (s : List ℕ) → 1 ≤ length s → is_mark (get_or s 0 0 ∷ []) ≡ true → (2 ≤ length s → is_mark (get_or s 0 0 ∷ get_or s 1 0 ∷ []) ≡ false) → IsFront is_mark s 1
+pub single_front : (s : List ℕ) → 1 ≤ length s → is_mark (get_or s 0 0 ∷ []) ≡ true → (2 ≤ length s → is_mark (get_or s 0 0 ∷ get_or s 1 0 ∷ []) ≡ false) → IsLongestFront is_mark s 1
 single_front s some mark double = record {
   within = some;
   ascii = λ _. let parts = mark_ascii (get_or s 0 0 ∷ []) mark in
@@ -96,7 +96,7 @@ single_front s some mark double = record {
   ];
 }
 
-pub no_front : (s : List ℕ) → (1 ≤ length s → is_mark (get_or s 0 0 ∷ []) ≡ false) → (2 ≤ length s → is_mark (get_or s 0 0 ∷ get_or s 1 0 ∷ []) ≡ false) → IsFront is_mark s 0
+pub no_front : (s : List ℕ) → (1 ≤ length s → is_mark (get_or s 0 0 ∷ []) ≡ false) → (2 ≤ length s → is_mark (get_or s 0 0 ∷ get_or s 1 0 ∷ []) ≡ false) → IsLongestFront is_mark s 0
 no_front s single double = record {
   within = omega arith;
   ascii = λ some. absurd (omega arith);
@@ -111,12 +111,12 @@ no_front s single double = record {
 }
 
 -- the front by what is known of its first byte
-pub front_by_first : (s : List ℕ) (n : ℕ) → 1 ≤ length s → n ≡ bool_byte (is_mark (get_or s 0 0 ∷ [])) → (2 ≤ length s → is_mark (get_or s 0 0 ∷ get_or s 1 0 ∷ []) ≡ false) → IsFront is_mark s n
+pub front_by_first : (s : List ℕ) (n : ℕ) → 1 ≤ length s → n ≡ bool_byte (is_mark (get_or s 0 0 ∷ [])) → (2 ≤ length s → is_mark (get_or s 0 0 ∷ get_or s 1 0 ∷ []) ≡ false) → IsLongestFront is_mark s n
 front_by_first s n some size double = by (is_mark (get_or s 0 0 ∷ [])) refl size
   where
-    by : (v : Bool) → is_mark (get_or s 0 0 ∷ []) ≡ v → n ≡ bool_byte v → IsFront is_mark s n
-    by true is e = subst (λ (k : ℕ). IsFront is_mark s k) (sym e) (single_front s some is double)
-    by false is e = subst (λ (k : ℕ). IsFront is_mark s k) (sym e) (no_front s (λ _. is) double)
+    by : (v : Bool) → is_mark (get_or s 0 0 ∷ []) ≡ v → n ≡ bool_byte v → IsLongestFront is_mark s n
+    by true is e = subst (λ (k : ℕ). IsLongestFront is_mark s k) (sym e) (single_front s some is double)
+    by false is e = subst (λ (k : ℕ). IsLongestFront is_mark s k) (sym e) (no_front s (λ _. is) double)
 
 -- a text with which neither a name nor a wildcard, a number or a literal begins
 pub record IsBare (s : List ℕ) : Type 0 where
@@ -140,10 +140,10 @@ bare_kind s m mark bare some is =
     (no_literal (take m s) (ap is_quote first ∙ bare.literal))
     is
 
-pub mark_none : (s : List ℕ) → IsBare s → IsFront is_mark s 0 → NoToken s
+pub mark_none : (s : List ℕ) → IsBare s → IsLongestFront is_mark s 0 → NoToken s
 mark_none s bare front = λ size some cut. bare_kind s size false bare some (front.longest size some cut.0)
 
-pub mark_some : (s : List ℕ) (n : ℕ) → IsUtf8 s → IsBare s → 0 < n → IsFront is_mark s n → IsToken s kind.Mark n
+pub mark_some : (s : List ℕ) (n : ℕ) → IsUtf8 s → IsBare s → 0 < n → IsLongestFront is_mark s n → IsToken s kind.Mark n
 mark_some s n text bare some front =
     let is : kind_of (take n s) ≡ Some kind.Mark = bare_kind s n true bare some (front.is some) in record {
       longest = record {

@@ -13,7 +13,7 @@ pub record IsToken (text : List ℕ) (kind : TokenKind) (size : ℕ) : Type 0 wh
   pub is : kind_of (take size text) ≡ Some kind
 
 -- the longest front of bytes that passes has so many, and ends in ASCII; 0 where none passes
-pub record IsFront (passes : List ℕ → Bool) (text : List ℕ) (size : ℕ) : Type 0 where
+pub record IsLongestFront (passes : List ℕ → Bool) (text : List ℕ) (size : ℕ) : Type 0 where
   pub within : size ≤ length text
   pub ascii : 0 < size → slice_index text (size - 1) < 128
   pub is : 0 < size → passes (take size text) ≡ true

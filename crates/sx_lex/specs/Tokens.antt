@@ -30,8 +30,8 @@ abbrev pub is_point : ℕ → Bool
 is_point c = c == 46
 
 -- a DecimalLiteral: one digit or more, and one point before, among or behind them (XPath 3.1, A.2.1)
-abbrev pub is_decimal : List ℕ → Bool
-is_decimal text = list_all (λ c. is_ascii_digit c || is_point c) text && (count_by is_point text == 1) && nat_lt 1 (length text)
+abbrev pub is_decimal_literal : List ℕ → Bool
+is_decimal_literal text = list_all (λ c. is_ascii_digit c || is_point c) text && (count_by is_point text == 1) && nat_lt 1 (length text)
 
 -- what stands behind the first quote of a literal: it ends in that quote, and has it besides only doubled (XPath 3.1, A.2.1,
 -- StringLiteral, EscapeQuot, EscapeApos)
@@ -50,15 +50,15 @@ is_literal [] = false
 is_literal (quote ∷ rest) = is_quote quote && closes quote rest
 
 -- the symbols that are tokens of their own (XPath 3.1, A.2)
-abbrev pub marks : List (List ℕ)
-marks =
+abbrev pub mark_texts : List (List ℕ)
+mark_texts =
     codes "(" ∷ codes ")" ∷ codes "[" ∷ codes "]" ∷ codes "," ∷ codes "$" ∷ codes "@" ∷ codes "?" ∷ codes "." ∷ codes ".." ∷ codes "/"
     ∷ codes "//" ∷ codes "::" ∷ codes ":=" ∷ codes "|" ∷ codes "||" ∷ codes "!" ∷ codes "!=" ∷ codes "=" ∷ codes "<" ∷ codes "<="
     ∷ codes ">" ∷ codes ">=" ∷ codes "+" ∷ codes "-" ∷ codes "*" ∷ []
 
 -- a mark: one of these symbols (XPath 3.1, A.2)
 unfoldable pub is_mark : List ℕ → Bool
-is_mark text = list_any (bytes_eq text) marks
+is_mark text = list_any (bytes_eq text) mark_texts
 
 -- the first kind of these whose test holds
 abbrev pub first_kind : List (Bool × TokenKind) → Option TokenKind
@@ -71,7 +71,7 @@ kinds text =
     (is_name text, kind.Name)
     ∷ (is_wild text, kind.Wild)
     ∷ (is_integer text, kind.Integer)
-    ∷ (is_decimal text, kind.Decimal)
+    ∷ (is_decimal_literal text, kind.Decimal)
     ∷ (is_literal text, kind.Str)
     ∷ (is_mark text, kind.Mark)
     ∷ []

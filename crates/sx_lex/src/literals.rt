@@ -1,7 +1,7 @@
 // Literals.
 ghost use Rattle.std.specs.Prelude.{◌≡◌, ◌+◌, ◌-◌, ◌≤◌, true, MatchOption, length, drop};
 ghost use Rattle.std.specs.Prelude.{slice_index};
-ghost use Rattle.sx_lex.specs.Fronts.{IsFront, IsToken, IsQuoteFree};
+ghost use Rattle.sx_lex.specs.Fronts.{IsLongestFront, IsToken, IsQuoteFree};
 ghost use Rattle.sx_lex.specs.Tokens as spec;
 ghost use Rattle.sx_lex.specs.Tokens.{NoToken};
 
@@ -33,7 +33,7 @@ pub(crate) fn literal(text: &str) -> Option<Front>
 /// ends at the last quote that was the first of two.
 fn literal_size(bytes: &[u8]) -> usize
     requires { spec.is_quote (slice_index bytes.now 0) ≡ true }
-    ensures { IsFront spec.is_literal bytes.now result }
+    ensures { IsLongestFront spec.is_literal bytes.now result }
 {
     let quote = bytes[0];
     let mut size = 0;

@@ -1,6 +1,6 @@
 // The marks.
 ghost use Rattle.std.specs.Prelude.{◌≡◌, ◌≢◌, [], ◌∷◌, MatchOption, false, slice_index};
-ghost use Rattle.sx_lex.specs.Fronts.{IsFront, IsToken, begins_name, begins_number};
+ghost use Rattle.sx_lex.specs.Fronts.{IsLongestFront, IsToken, begins_name, begins_number};
 ghost use Rattle.sx_lex.specs.Tokens as spec;
 ghost use Rattle.sx_lex.specs.Tokens.{NoToken};
 
@@ -25,7 +25,7 @@ pub(crate) fn mark(text: &str) -> Option<Front>
 
 /// How many bytes the longest mark at the front has; 0 where there is none.
 pub(crate) fn mark_size(bytes: &[u8]) -> usize
-    ensures { IsFront spec.is_mark bytes.now result }
+    ensures { IsLongestFront spec.is_mark bytes.now result }
 {
     match bytes {
         [] => 0,

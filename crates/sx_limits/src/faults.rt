@@ -1,6 +1,6 @@
 // What is wrong with a document.
 ghost use Rattle.std.specs.Prelude.{◌≡◌};
-ghost use Rattle.sx_limits.specs.Faults.{is_limit, name_of};
+ghost use Rattle.sx_limits.specs.Faults.{is_limit, fault_name};
 
 use thiserror::Error;
 
@@ -60,7 +60,7 @@ impl Which {
 
     /// The name that diagnostic lines have for it.
     pub fn name(self) -> &'static str
-        ensures { result.now ≡ name_of self }
+        ensures { result.now ≡ fault_name self }
     {
         match self {
             Which::NotUtf8 => "NotUtf8",

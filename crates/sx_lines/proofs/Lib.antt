@@ -1,7 +1,7 @@
-mod Escapes
-mod Lacking
-mod LineBytes
-mod NameBytes
-mod ReadBack
-mod Results
+pub mod Escapes
+pub mod Lacking
+pub mod LineBytes
+pub mod NameBytes
+pub mod ReadBack
+pub mod Results
 pub mod Printed

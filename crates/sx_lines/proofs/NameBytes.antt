@@ -13,7 +13,7 @@ use Rattle.sx_lines.specs.Lines.{Lacks}
 use Rattle.sx_lines.proofs.Lacking.{Lacks-append, none_at}
 
 -- text is split at an ASCII character
-parts_utf8 : (mark : ℕ) (a b : List ℕ) → mark < 128 → IsUtf8 (a ++ mark ∷ b) → IsUtf8 a × IsUtf8 b
+pub parts_utf8 : (mark : ℕ) (a b : List ℕ) → mark < 128 → IsUtf8 (a ++ mark ∷ b) → IsUtf8 a × IsUtf8 b
 parts_utf8 mark a b ascii text =
     let whole = a ++ mark ∷ b in
     let within : length a < length whole = longer a in
@@ -42,7 +42,7 @@ first_further : (c : ℕ) → is_first c ≡ true → is_further c ≡ true
 first_further c first = ap (λ (v : Bool). v || is_in further_characters c) first
 
 -- where a text is split at the first colon
-colon_split : (s local : List ℕ) → behind 58 s ≡ Some local → s ≡ before 58 s ++ 58 ∷ local
+pub colon_split : (s local : List ℕ) → behind 58 s ≡ Some local → s ≡ before 58 s ++ 58 ∷ local
 colon_split [] local e = cc
 colon_split (b ∷ s) local e = by (b == 58) refl e (colon_split s local)
   where

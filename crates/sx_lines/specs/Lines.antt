@@ -48,13 +48,13 @@ AreLines [] = Unit {0}
 AreLines (l ∷ ls) = IsLine l × AreLines ls
 
 -- lines, each with a newline behind it
-abbrev pub joined : List Line → List ℕ
-joined [] = []
-joined (l ∷ ls) = line_bytes l ++ 10 ∷ joined ls
+abbrev pub joined_lines : List Line → List ℕ
+joined_lines [] = []
+joined_lines (l ∷ ls) = line_bytes l ++ 10 ∷ joined_lines ls
 
 -- the line that ends a whole result, with its newline
-abbrev pub last_line : List ℕ
-last_line = 67 ∷ 10 ∷ []
+abbrev pub ending_line : List ℕ
+ending_line = 67 ∷ 10 ∷ []
 
 -- the lines of attributes in front of others
 abbrev pub with_pairs : List Pair → List Line → List Line
@@ -62,16 +62,16 @@ with_pairs [] ls = ls
 with_pairs (p ∷ ps) ls = kind.Pair p ∷ with_pairs ps ls
 
 -- the lines of events, in front of the last
-abbrev pub lines_of : List Built → List Line
-lines_of [] = []
-lines_of (event.Start name pairs ∷ es) = with_pairs pairs (kind.Start name ∷ lines_of es)
-lines_of (event.End name ∷ es) = kind.End name ∷ lines_of es
-lines_of (event.Text text ∷ es) = kind.Text text ∷ lines_of es
-lines_of (event.Pi target content ∷ es) = kind.Pi target content ∷ lines_of es
+abbrev pub lines_of_events : List Built → List Line
+lines_of_events [] = []
+lines_of_events (event.Start name pairs ∷ es) = with_pairs pairs (kind.Start name ∷ lines_of_events es)
+lines_of_events (event.End name ∷ es) = kind.End name ∷ lines_of_events es
+lines_of_events (event.Text text ∷ es) = kind.Text text ∷ lines_of_events es
+lines_of_events (event.Pi target content ∷ es) = kind.Pi target content ∷ lines_of_events es
 
 -- an event in front of events, if there are any
-abbrev pub put : Built → Option (List Built) → Option (List Built)
-put e events = option_map (λ es. e ∷ es) events
+abbrev pub put_event : Built → Option (List Built) → Option (List Built)
+put_event e events = option_map (λ es. e ∷ es) events
 
 -- what is there only where no attributes wait for their element
 abbrev pub alone : List Pair → Option (List Built) → Option (List Built)
@@ -85,10 +85,10 @@ apart false events = events
 
 -- The events whose lines these are, where a text may stand before them and these attributes wait for their element; or
 -- none, where no normal list has these lines.
-abbrev pub events_of : Bool → List Pair → List Line → Option (List Built)
-events_of after_text pairs [] = alone pairs (Some [])
-events_of after_text pairs (kind.Pair p ∷ ls) = events_of after_text (pairs ++ p ∷ []) ls
-events_of after_text pairs (kind.Start name ∷ ls) = put (event.Start name pairs) (events_of false [] ls)
-events_of after_text pairs (kind.End name ∷ ls) = alone pairs (put (event.End name) (events_of false [] ls))
-events_of after_text pairs (kind.Text text ∷ ls) = apart after_text (alone pairs (put (event.Text text) (events_of true [] ls)))
-events_of after_text pairs (kind.Pi target content ∷ ls) = alone pairs (put (event.Pi target content) (events_of false [] ls))
+abbrev pub events_of_lines : Bool → List Pair → List Line → Option (List Built)
+events_of_lines after_text pairs [] = alone pairs (Some [])
+events_of_lines after_text pairs (kind.Pair p ∷ ls) = events_of_lines after_text (pairs ++ p ∷ []) ls
+events_of_lines after_text pairs (kind.Start name ∷ ls) = put_event (event.Start name pairs) (events_of_lines false [] ls)
+events_of_lines after_text pairs (kind.End name ∷ ls) = alone pairs (put_event (event.End name) (events_of_lines false [] ls))
+events_of_lines after_text pairs (kind.Text text ∷ ls) = apart after_text (alone pairs (put_event (event.Text text) (events_of_lines true [] ls)))
+events_of_lines after_text pairs (kind.Pi target content ∷ ls) = alone pairs (put_event (event.Pi target content) (events_of_lines false [] ls))

@@ -4,7 +4,7 @@ ghost use Rattle.std.specs.Prelude.{true, false};
 ghost use Rattle.sx_lines.specs.declared.events.Built.{Built};
 ghost use Rattle.sx_lines.specs.declared.lines.Line.{Line};
 ghost use Rattle.sx_lines.specs.Normal.{IsNormal, whole};
-ghost use Rattle.sx_lines.specs.Lines.{line_bytes, IsLine, events_of};
+ghost use Rattle.sx_lines.specs.Lines.{line_bytes, IsLine, events_of_lines};
 ghost use Rattle.sx_lines.specs.Reader.{ReadsAs, ReadsMore, Refuses, ReadsBytes, RefusesBytes};
 
 use crate::lines::{Line, read_line, split_at_byte};

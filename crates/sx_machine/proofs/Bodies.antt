@@ -5,7 +5,7 @@ use Rattle.sx_kinds.specs.declared.sheets.Template.{Template}
 use Rattle.sx_machine.specs.Body.{Body, nil, literal, copies, words, apply, body_of, written_out, consumes, consuming_parts, or_else, if_two, culprit_inside, culprit_of, culprit}
 use Rattle.sx_tree.specs.declared.events.Label.{Label}
 use Rattle.sx_named.specs.Named.{NamedElement}
-use Rattle.sx_machine.specs.Choice.{otherwise, last_that, matches, built_in, body_or, chosen_for}
+use Rattle.sx_machine.specs.Choice.{otherwise, last_that, matches, built_in_template, body_or, chosen_for}
 use Rattle.sx_names.specs.Numbering.{NameTable}
 
 abbrev pub IsMotionless : {N : Type 0} → Body N → Type 0
@@ -101,13 +101,13 @@ module _ (names : NameTable) where
   good_written (words s rest) h = good_written rest h
   good_written (apply rest) h = consumes_written rest ∙ h
 
-  good_built_in : (is_copying : Bool) (e : NamedElement) → IsGood (built_in is_copying e)
+  good_built_in : (is_copying : Bool) (e : NamedElement) → IsGood (built_in_template is_copying e)
   good_built_in false e = refl
   good_built_in true e = (refl, tt, refl)
 
   module _ (is_copying : Bool) (e : NamedElement) where
     abbrev IsGoodChoice : Option Template → Type 0
-    IsGoodChoice o = IsGood (body_or names (built_in is_copying e) o)
+    IsGoodChoice o = IsGood (body_or names (built_in_template is_copying e) o)
 
     good_or : (a b : Option Template) → IsGoodChoice a → IsGoodChoice b → IsGoodChoice (otherwise a b)
     good_or None b h k = k

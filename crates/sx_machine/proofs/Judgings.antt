@@ -7,7 +7,7 @@ use Rattle.sx_kinds.specs.declared.constructs.Instr.{Instr}
 use Rattle.sx_kinds.specs.declared.constructs.Instr.TheViews.{out-Instr}
 use Rattle.sx_kinds.specs.declared.constructs.InstrForm.{InstrForm}
 use Rattle.sx_kinds.specs.declared.constructs.InstrForm.TheVariants as form
-use Rattle.sx_machine.specs.Body.{Body, nil, literal, copies, words, apply, body_of, in_front, instr_in_front, or_else, consumes, consuming_parts, culprit_inside, culprit_of}
+use Rattle.sx_machine.specs.Body.{Body, nil, literal, copies, words, apply, body_of, form_in_front, instr_in_front, or_else, consumes, consuming_parts, culprit_inside, culprit_of}
 use Rattle.sx_machine.proofs.Rules.{body-drop, in_front_is, joined_is}
 
 -- So many instructions were looked at: the first culprit in them, and how many of them consume.
@@ -72,7 +72,7 @@ literal_is : (i : Instr) (label : Label) → (out-Instr i).form ≡ form.Literal
     → instr_in_front i rest ≡ literal (out-Instr i).construct.line label (body_of (out-Instr i).body) rest
 literal_is i label e rest =
     in_front_is i rest
-    ∙ ap (λ (g : InstrForm). in_front (out-Instr i).construct.line g (map instr_in_front (out-Instr i).body) rest) e
+    ∙ ap (λ (g : InstrForm). form_in_front (out-Instr i).construct.line g (map instr_in_front (out-Instr i).body) rest) e
     ∙ ap (λ (b : Body Label). literal (out-Instr i).construct.line label b rest) (joined_is (out-Instr i).body)
 
 -- the first culprit from it on, where this is the first in its element

@@ -14,7 +14,7 @@ use Rattle.sx_machine.specs.Body.{Body}
 use Rattle.sx_machine.specs.Choice.{chosen_for}
 use Rattle.sx_machine.specs.Run.{Output, Ending, done, waits, stops, ending_with, gives, applied, is_done, Result, result_of}
 use Rattle.sx_machine.specs.Plan.{AreRulesOf, Task, tasks, reacts, task_of}
-use Rattle.sx_machine.specs.Writer.{StandsFor}
+use Rattle.sx_machine.specs.Writer.{WriterStands}
 use Rattle.sx_machine.specs.Growth.{ClosesWhole, GrownFrom}
 use Rattle.sx_machine.specs.Meaning.{IsReady, is_copying_first, meaning_on}
 use Rattle.sx_machine.specs.Session.{Builds, StandsOn, FindsLast, state_of, root_job}
@@ -112,17 +112,17 @@ module _ (sheet : Sheet) (names : NameTable) where
     error_here e = (ends_here e).0
 
     -- what the builder was asked for where the session goes on
-    pub asked_here : old.state ≡ state.Going → StandsFor old.writer before.raw false given
+    pub asked_here : old.state ≡ state.Going → WriterStands old.writer before.raw false given
     asked_here e =
         let same = s.builds.all_asked e in
-        subst (λ (b : Bool). StandsFor old.writer before.raw b given) same.1
-        (subst (λ (asked : List Asked). StandsFor old.writer asked s.builds.at_end given) same.0 s.builds.stands)
+        subst (λ (b : Bool). WriterStands old.writer before.raw b given) same.1
+        (subst (λ (asked : List Asked). WriterStands old.writer asked s.builds.at_end given) same.0 s.builds.stands)
 
     -- a session that goes on, where these come and it ends so
     pub stands_next : (new : Session) (h : TreeEvent NamedElement) (more : List Asked) (g : Ending) → old.state ≡ state.Going → d.is_open ≡ true → GoesOn h →
         reacts is_copying chosen old.root (map (task_of names old.rules.list) old.frames) h ≡ out more g →
         new.rules ≡ old.rules → new.is_copying ≡ old.is_copying → new.root ≡ old.root →
-        StandsFor new.writer (before.raw ++ more) false given → new.state ≡ state_of (ending_with (error_of (before.raw ++ more)) g) →
+        WriterStands new.writer (before.raw ++ more) false given → new.state ≡ state_of (ending_with (error_of (before.raw ++ more)) g) →
         (new.state ≡ state.Going → map (task_of names new.rules.list) new.frames ≡ tasks chosen new.root (pushed d.content h)) →
         StandsOn sheet names invocations new (push d h) given
     stands_next new h more g going o goes is rules copying root stands state_is frames =
@@ -154,7 +154,7 @@ module _ (sheet : Sheet) (names : NameTable) where
     -- a session that goes on, at the close
     pub stands_closed : (new : Session) → old.state ≡ state.Going → d.is_open ≡ true → has_open d.content ≡ false →
         new.rules ≡ old.rules → new.is_copying ≡ old.is_copying → new.root ≡ old.root →
-        StandsFor new.writer before.raw true given → new.state ≡ state.Closed → StandsOn sheet names invocations new (push d closes) given
+        WriterStands new.writer before.raw true given → new.state ≡ state.Closed → StandsOn sheet names invocations new (push d closes) given
     stands_closed new going o h rules copying root stands state_is =
         let here = ends_here going in
         let after : meaning_on sheet names invocations (push d closes) ≡ out before.raw done =

@@ -23,10 +23,10 @@ use Rattle.sx_machine.specs.declared.session.Session.{Session}
 use Rattle.sx_machine.specs.declared.session.State.TheVariants as state
 use Rattle.sx_machine.specs.declared.writer.Writer.{Writer}
 use Rattle.sx_machine.specs.Body.{Body}
-use Rattle.sx_machine.specs.Choice.{chosen_for, built_in}
+use Rattle.sx_machine.specs.Choice.{chosen_for, built_in_template}
 use Rattle.sx_machine.specs.Run.{Output, Ending, done, waits, stops, ending_with, gives, next, too_deep, copied_attributes}
-use Rattle.sx_machine.specs.Plan.{Plan, Task, tasks, task_of, reacts, entered, first, last_job, ending_of, saying, instructing, plan_of, read_parts, before_of, after_of, task_for, idle, after_rule, after_at}
-use Rattle.sx_machine.specs.Writer.{StandsFor, asked_attributes}
+use Rattle.sx_machine.specs.Plan.{Plan, Task, tasks, task_of, reacts, entered, first, last_job, ending_of_tasks, saying, instructing, plan_of, read_parts, before_of, after_of, task_for, idle, after_rule, after_at}
+use Rattle.sx_machine.specs.Writer.{WriterStands, asked_attributes}
 use Rattle.sx_machine.specs.Meaning.{is_copying_first, meaning_on}
 use Rattle.sx_machine.specs.Session.{StandsOn, Wrote, state_of}
 use Rattle.sx_machine.proofs.Outs.{waiting, out, next-nil, next_done}
@@ -78,12 +78,12 @@ none_named names [] e = refl
 none_named names (a ∷ rest) e = absurd (cc)
 
 -- what a copy gives before the children, where all its attributes are given
-pub before_copy : (left : ℕ) (e : NamedElement) → (left ≡ 0 → e.attributes ≡ []) → before_of (plan_of left (built_in true e)) ≡ gives (ask.starts e.name ∷ asked_attributes e.attributes)
+pub before_copy : (left : ℕ) (e : NamedElement) → (left ≡ 0 → e.attributes ≡ []) → before_of (plan_of left (built_in_template true e)) ≡ gives (ask.starts e.name ∷ asked_attributes e.attributes)
 before_copy left e h =
     ap (λ (x : Output). next (gives (ask.starts e.name ∷ [])) x) (next-nil (copied_attributes left e.attributes) ∙ attributes_asked left e.attributes h)
 
 -- the same, where its first attribute is too deep
-pub before_deep : (left : ℕ) (e : NamedElement) → left ≡ 0 → ¬ (e.attributes ≡ []) → before_of (plan_of left (built_in true e)) ≡ out (ask.starts e.name ∷ []) (stops error.Sxli0001)
+pub before_deep : (left : ℕ) (e : NamedElement) → left ≡ 0 → ¬ (e.attributes ≡ []) → before_of (plan_of left (built_in_template true e)) ≡ out (ask.starts e.name ∷ []) (stops error.Sxli0001)
 before_deep left e z h =
     ap (λ (x : Output). next (gives (ask.starts e.name ∷ [])) x)
     (next-nil (copied_attributes left e.attributes) ∙ ap (λ (n : ℕ). copied_attributes n e.attributes) z ∙ attributes_deep e.attributes h)
@@ -106,10 +106,10 @@ module _ (sheet : Sheet) (names : NameTable) (invocations : ℕ) (old : Session)
   these : now ≡ tasks chosen old.root d.content
   these = s.frames_are going
 
-  same_asked : (new : Session) → new.writer ≡ old.writer → StandsFor new.writer (so_far ++ []) false given
+  same_asked : (new : Session) → new.writer ≡ old.writer → WriterStands new.writer (so_far ++ []) false given
   same_asked new e =
-      subst (λ (w : Writer). StandsFor w (so_far ++ []) false given) (sym e)
-      (subst (λ (asked : List Asked). StandsFor old.writer asked false given) (sym (append-nil so_far)) (asked_here sheet names invocations old d given s going))
+      subst (λ (w : Writer). WriterStands w (so_far ++ []) false given) (sym e)
+      (subst (λ (asked : List Asked). WriterStands old.writer asked false given) (sym (append-nil so_far)) (asked_here sheet names invocations old d given s going))
 
   same_error : (g : Ending) → state_of g ≡ state_of (ending_with (error_of (so_far ++ [])) g)
   same_error g =
@@ -194,7 +194,7 @@ module _ (sheet : Sheet) (names : NameTable) (invocations : ℕ) (old : Session)
     start_deep e left j z w k = comes_too_deep (starts e) tt (ap (first_of e) (j ∙ ap job.Apply z)) w k
 
     -- the built-in template of text-only copy is chosen
-    pub start_passed : (e : NamedElement) (f : Frame) (left : ℕ) → last_job old.root now ≡ job.Apply (suc left) → chosen e ≡ built_in false e → task_of names old.rules.list f ≡ task_for left (plan_of left (built_in false e)) →
+    pub start_passed : (e : NamedElement) (f : Frame) (left : ℕ) → last_job old.root now ≡ job.Apply (suc left) → chosen e ≡ built_in_template false e → task_of names old.rules.list f ≡ task_for left (plan_of left (built_in_template false e)) →
         new.frames ≡ old.frames ++ f ∷ [] → new.writer ≡ old.writer → new.state ≡ state.Going → StandsOn sheet names invocations new (push d (starts e)) given
     start_passed e f left j chose t fs w k =
         comes_nothing (starts e) tt (ap (first_of e) j ∙ ap (λ (b : Body Name). next (before_of (plan_of left b)) waiting) chose) w k
@@ -205,7 +205,7 @@ module _ (sheet : Sheet) (names : NameTable) (invocations : ℕ) (old : Session)
     pub end_nothing : old.frames ≡ [] → new.frames ≡ [] → new.writer ≡ old.writer → new.state ≡ state.Going → StandsOn sheet names invocations new (push d ends) given
     end_nothing none f w k =
         let empty : now ≡ [] = ap (map (task_of names old.rules.list)) none in
-        comes_nothing ends tt (ap ending_of empty) w k
+        comes_nothing ends tt (ap ending_of_tasks empty) w k
         (ap₂ (λ (rs : RuleTable) (fs : List Frame). map (task_of names rs.list) fs) rules f
         ∙ sym (tasks_end_none chosen d.content old.root (sym these ∙ empty)) ∙ ap (λ (j : Job). tasks chosen j (pushed d.content ends)) (sym root))
 
@@ -245,7 +245,7 @@ module _ (sheet : Sheet) (names : NameTable) (invocations : ℕ) (old : Session)
   -- the same, where an attribute before the children is too deep
   pub start_stops : (new : Session) (e : NamedElement) (left : ℕ) (p : Plan) (more : List Asked) → last_job old.root now ≡ job.Apply (suc left) → plan_of left (chosen e) ≡ p →
       before_of p ≡ out more (stops error.Sxli0001) → new.rules ≡ old.rules → new.is_copying ≡ old.is_copying → new.root ≡ old.root →
-      StandsFor new.writer (so_far ++ more) false given → new.state ≡ state_of (ending_with (error_of (so_far ++ more)) (stops error.Sxli0001)) →
+      WriterStands new.writer (so_far ++ more) false given → new.state ≡ state_of (ending_with (error_of (so_far ++ more)) (stops error.Sxli0001)) →
       StandsOn sheet names invocations new (push d (starts e)) given
   start_stops new e left p more j planned before rules copying root stands is =
       stands_next sheet names invocations old d given s new (starts e) more (stops error.Sxli0001) going o tt
@@ -265,7 +265,7 @@ module _ (sheet : Sheet) (names : NameTable) (invocations : ℕ) (old : Session)
       let front : List Task = map (task_of names old.rules.list) new.frames in
       let parts : now ≡ front ++ t ∷ [] = ap (map (task_of names old.rules.list)) more ∙ map-append (task_of names old.rules.list) new.frames (f ∷ []) in
       comes new ends (after_at names' old.rules.list f.after).raw tt
-      (ap ending_of parts ∙ ending-snoc front t ∙ ap (λ (x : Output). next x waiting) same
+      (ap ending_of_tasks parts ∙ ending-snoc front t ∙ ap (λ (x : Output). next x waiting) same
       ∙ next_done (after_at names' old.rules.list f.after) (behind_done names' old.rules.list f.after)) w
       (ap (λ (rs : RuleTable). map (task_of names rs.list) new.frames) w.same_rules ∙ sym (tasks_end chosen d.content old.root front t (sym these ∙ parts))
       ∙ ap (λ (j : Job). tasks chosen j (pushed d.content ends)) (sym w.same_root))

@@ -2,7 +2,7 @@
 use Rattle.std.proofs.Common.{◌≡◌, List, [], ◌++◌, refl, ap, sym, ◌∙◌, append_assoc, append-nil}
 use Rattle.sx_atoms.specs.declared.error_codes.Code.{Code}
 use Rattle.sx_build.specs.Asked.{Asked}
-use Rattle.sx_machine.specs.Run.{Output, Ending, done, waits, stops, nothing, gives, behind, next}
+use Rattle.sx_machine.specs.Run.{Output, Ending, done, waits, stops, nothing, gives, output_behind, next}
 
 -- nothing more until something comes
 abbrev pub waiting : Output
@@ -41,7 +41,7 @@ IsSettled a = SettledAt a.ending
 with_raw : (e : Ending) (a b : List Asked) → a ≡ b → out a e ≡ out b e
 with_raw e a b p = ap (λ (r : List Asked). out r e) p
 
-assoc_at : (r s : List Asked) (g h : Ending) (c : Output) → next (behind r g (out s h)) c ≡ behind r g (behind s h c)
+assoc_at : (r s : List Asked) (g h : Ending) (c : Output) → next (output_behind r g (out s h)) c ≡ output_behind r g (output_behind s h c)
 assoc_at r s done done c = with_raw c.ending _ _ (append_assoc r s c.raw)
 assoc_at r s done waits c = refl
 assoc_at r s done (stops k) c = refl
@@ -51,7 +51,7 @@ assoc_at r s (stops k) h c = refl
 pub next-assoc : (a b c : Output) → next (next a b) c ≡ next a (next b c)
 next-assoc a b c = assoc_at a.raw b.raw a.ending b.ending c
 
-going_next_at : (r : List Asked) (g : Ending) (b : Output) → GoingAt g → behind r g b ≡ out r g
+going_next_at : (r : List Asked) (g : Ending) (b : Output) → GoingAt g → output_behind r g b ≡ out r g
 going_next_at r done b h = absurd h
 going_next_at r waits b h = refl
 going_next_at r (stops k) b h = refl
@@ -59,7 +59,7 @@ going_next_at r (stops k) b h = refl
 pub going-next : (a b : Output) → IsGoing a → next a b ≡ a
 going-next a b h = going_next_at a.raw a.ending b h
 
-next_going_at : (r : List Asked) (g : Ending) (b : Output) → IsGoing b → IsGoing (behind r g b)
+next_going_at : (r : List Asked) (g : Ending) (b : Output) → IsGoing b → IsGoing (output_behind r g b)
 next_going_at r done b h = h
 next_going_at r waits b h = tt
 next_going_at r (stops k) b h = tt
@@ -67,7 +67,7 @@ next_going_at r (stops k) b h = tt
 pub next_going : (a b : Output) → IsGoing b → IsGoing (next a b)
 next_going a b h = next_going_at a.raw a.ending b h
 
-next_settled_at : (r : List Asked) (g : Ending) (b : Output) → SettledAt g → IsSettled b → IsSettled (behind r g b)
+next_settled_at : (r : List Asked) (g : Ending) (b : Output) → SettledAt g → IsSettled b → IsSettled (output_behind r g b)
 next_settled_at r done b h k = k
 next_settled_at r waits b h k = absurd h
 next_settled_at r (stops c) b h k = tt
@@ -83,14 +83,14 @@ resume_going_at r (stops c) d h k = tt
 pub resume_going : (a d : Output) → IsGoing a → IsGoing d → IsGoing (resume a d)
 resume_going a d h k = resume_going_at a.raw a.ending d h k
 
-resume_behind_at : (r s : List Asked) (g h : Ending) (d : Output) → SettledAt g → behind r g (resumed s h d) ≡ resume (behind r g (out s h)) d
+resume_behind_at : (r s : List Asked) (g h : Ending) (d : Output) → SettledAt g → output_behind r g (resumed s h d) ≡ resume (output_behind r g (out s h)) d
 resume_behind_at r s done done d k = refl
 resume_behind_at r s done waits d k = with_raw d.ending _ _ (sym (append_assoc r s d.raw))
 resume_behind_at r s done (stops c) d k = refl
 resume_behind_at r s waits h d k = absurd k
 resume_behind_at r s (stops c) h d k = refl
 
--- more behind what is settled
+-- more output_behind what is settled
 pub resume_behind : (a b d : Output) → IsSettled a → next a (resume b d) ≡ resume (next a b) d
 resume_behind a b d k = resume_behind_at a.raw b.raw a.ending b.ending d k
 
@@ -108,7 +108,7 @@ end_here_at r (stops c) t h = refl
 pub end_here : (a t : Output) → IsGoing a → next (next (resume a (gives [])) t) waiting ≡ resume a (next t waiting)
 end_here a t h = end_here_at a.raw a.ending t h
 
-next_nil_at : (r : List Asked) (g : Ending) → behind r g (gives []) ≡ out r g
+next_nil_at : (r : List Asked) (g : Ending) → output_behind r g (gives []) ≡ out r g
 next_nil_at r done = with_raw done _ _ (append-nil r)
 next_nil_at r waits = refl
 next_nil_at r (stops c) = refl
@@ -122,13 +122,13 @@ resume_waits m r e = ap (λ (g : Ending). resumed m.raw g r) e
 pub resume_stops : (m r : Output) (c : Code) → m.ending ≡ stops c → resume m r ≡ out m.raw (stops c)
 resume_stops m r c e = ap (λ (g : Ending). resumed m.raw g r) e
 
-opens_at : (r : List Asked) (g : Ending) (k : Code) → g ≡ stops k → behind r g waiting ≡ out r g
+opens_at : (r : List Asked) (g : Ending) (k : Code) → g ≡ stops k → output_behind r g waiting ≡ out r g
 opens_at r g k e = rw e refl
 
 pub next_stops : (f : Output) (k : Code) → f.ending ≡ stops k → next f waiting ≡ f
 next_stops f k e = opens_at f.raw f.ending k e
 
-opens_done_at : (r : List Asked) (g : Ending) → g ≡ done → behind r g waiting ≡ out r waits
+opens_done_at : (r : List Asked) (g : Ending) → g ≡ done → output_behind r g waiting ≡ out r waits
 opens_done_at r g e = rw e (with_raw waits _ _ (append-nil r))
 
 pub next_done : (f : Output) → f.ending ≡ done → next f waiting ≡ out f.raw waits

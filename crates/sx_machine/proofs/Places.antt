@@ -10,7 +10,7 @@ use Rattle.sx_machine.specs.declared.rule_table.RuleTable.{RuleTable}
 use Rattle.sx_machine.specs.Body.{IsKnownPattern, AreKnown}
 use Rattle.sx_machine.specs.Choice.{otherwise, last_that}
 use Rattle.sx_machine.specs.Plan.{pattern_name, AreRulesOf}
-use Rattle.sx_machine.specs.Session.{rule_at, place_in, is_number, is_named, FindsLast}
+use Rattle.sx_machine.specs.Session.{rule_at, place_in, is_number, is_rule_for, FindsLast}
 
 -- ---- the places of rules
 
@@ -37,14 +37,14 @@ place_or rules false i r place last at e = e
 
 -- the places of one rule more
 pub place_more : (rules : List Rule) (i n : ℕ) (r : Rule) (old new : Option ℕ) → i < length rules → r ≡ get_or rules i r →
-    rule_at rules old ≡ last_that (is_named n) (take i rules) → new ≡ cond (is_named n r) (Some i) old →
-    rule_at rules new ≡ last_that (is_named n) (take (i + 1) rules)
+    rule_at rules old ≡ last_that (is_rule_for n) (take i rules) → new ≡ cond (is_rule_for n r) (Some i) old →
+    rule_at rules new ≡ last_that (is_rule_for n) (take (i + 1) rules)
 place_more rules i n r old new h read e put =
     ap (rule_at rules) put
-    ∙ place_or rules (is_named n r) i r old (last_that (is_named n) (take i rules)) (slice_get-get_or rules i r h ∙ ap Some (sym read)) e
-    ∙ sym (last-snoc (is_named n) (take i rules) r)
-    ∙ ap (λ (x : Rule). last_that (is_named n) (take i rules ++ x ∷ [])) read
-    ∙ ap (last_that (is_named n)) (sym (take_more rules i r h))
+    ∙ place_or rules (is_rule_for n r) i r old (last_that (is_rule_for n) (take i rules)) (slice_get-get_or rules i r h ∙ ap Some (sym read)) e
+    ∙ sym (last-snoc (is_rule_for n) (take i rules) r)
+    ∙ ap (λ (x : Rule). last_that (is_rule_for n) (take i rules ++ x ∷ [])) read
+    ∙ ap (last_that (is_rule_for n)) (sym (take_more rules i r h))
 
 -- ---- numbers that the stylesheet doesn't know
 
@@ -52,7 +52,7 @@ not_this : (count number : ℕ) (p : Option NamePattern) → IsKnownPattern coun
 not_this count number None k h = refl
 not_this count number (Some p) k h = ne_eqb p.name number (omega arith)
 
-no_rule : (count number : ℕ) (ts : List Template) (rs : List Rule) → AreKnown count ts → AreRulesOf ts rs → count ≤ number → last_that (is_named number) rs ≡ None
+no_rule : (count number : ℕ) (ts : List Template) (rs : List Rule) → AreKnown count ts → AreRulesOf ts rs → count ≤ number → last_that (is_rule_for number) rs ≡ None
 no_rule count number [] [] k all h = refl
 no_rule count number [] (r ∷ rs) k all h = absurd all
 no_rule count number (t ∷ ts) [] k all h = absurd all
@@ -61,8 +61,8 @@ no_rule count number (t ∷ ts) (r ∷ rs) k all h =
     (ap (is_number number) all.0.named ∙ not_this count number t.pattern k.0 h)
 
 find_by : (table : RuleTable) (ts : List Template) (count : ℕ) → AreKnown count ts → AreRulesOf ts table.list →
-    ((n : ℕ) → n < count → rule_at table.list (place_in table.places n) ≡ last_that (is_named n) table.list) → length table.places ≤ count →
-    (number : ℕ) → (number < count) ⊎ (count ≤ number) → rule_at table.list (place_in table.places number) ≡ last_that (is_named number) table.list
+    ((n : ℕ) → n < count → rule_at table.list (place_in table.places n) ≡ last_that (is_rule_for n) table.list) → length table.places ≤ count →
+    (number : ℕ) → (number < count) ⊎ (count ≤ number) → rule_at table.list (place_in table.places number) ≡ last_that (is_rule_for number) table.list
 find_by table ts count known all found bound number (inl h) = found number h
 find_by table ts count known all found bound number (inr h) =
     ap (rule_at table.list) (get_or_past table.places number None (omega arith))
@@ -70,5 +70,5 @@ find_by table ts count known all found bound number (inr h) =
 
 -- where the names in templates have numbers each is found
 pub finds_last : (table : RuleTable) (ts : List Template) (count : ℕ) → AreKnown count ts → AreRulesOf ts table.list →
-    ((n : ℕ) → n < count → rule_at table.list (place_in table.places n) ≡ last_that (is_named n) table.list) → length table.places ≤ count → FindsLast table
+    ((n : ℕ) → n < count → rule_at table.list (place_in table.places n) ≡ last_that (is_rule_for n) table.list) → length table.places ≤ count → FindsLast table
 finds_last table ts count known all found bound = λ number. find_by table ts count known all found bound number (cases_lt number count)

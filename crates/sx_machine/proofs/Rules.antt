@@ -15,19 +15,19 @@ use Rattle.sx_kinds.specs.declared.constructs.Instr.TheViews.{out-Instr}
 use Rattle.sx_kinds.specs.declared.constructs.Instr.TheFolds.{fold_out-Instr}
 use Rattle.sx_kinds.specs.declared.sheets.Template.{Template}
 use Rattle.sx_machine.specs.declared.plans.Rule.{Rule}
-use Rattle.sx_machine.specs.Body.{Body, nil, literal, copies, words, apply, body_of, in_front, instr_in_front, layer, joined, written_out, IsKnownPattern, IsKnownBody, AreKnown}
-use Rattle.sx_machine.specs.Choice.{otherwise, last_that, is_name, pattern_passes, matches, body_or}
+use Rattle.sx_machine.specs.Body.{Body, nil, literal, copies, words, apply, body_of, form_in_front, instr_in_front, layer, joined_body, written_out, IsKnownPattern, IsKnownBody, AreKnown}
+use Rattle.sx_machine.specs.Choice.{otherwise, last_that, is_entry_named, pattern_passes, matches, body_or}
 use Rattle.sx_machine.specs.Plan.{plan_of, read_plan, pattern_name, IsRuleOf, AreRulesOf, after_of, after_rule}
-use Rattle.sx_machine.specs.Session.{is_number, is_named}
+use Rattle.sx_machine.specs.Session.{is_number, is_rule_for}
 
 -- ---- bodies by their instructions
 
-pub joined_is : (is : List Instr) → joined (map instr_in_front is) ≡ body_of is
+pub joined_is : (is : List Instr) → joined_body (map instr_in_front is) ≡ body_of is
 joined_is [] = refl
 joined_is (i ∷ is) = ap (instr_in_front i) (joined_is is)
 
 -- an instruction in front of others, by its form
-pub in_front_is : (i : Instr) (rest : Body Label) → instr_in_front i rest ≡ in_front (out-Instr i).construct.line (out-Instr i).form (map instr_in_front (out-Instr i).body) rest
+pub in_front_is : (i : Instr) (rest : Body Label) → instr_in_front i rest ≡ form_in_front (out-Instr i).construct.line (out-Instr i).form (map instr_in_front (out-Instr i).body) rest
 in_front_is i rest = ap (λ (f : Body Label → Body Label). f rest) (fold_out-Instr (Body Label → Body Label) layer i)
 
 -- the instructions from one on
@@ -77,15 +77,15 @@ for_if false true t r e h = absurd (cc)
 for_if false false t r e h = tt
 
 -- the last rule for a number is that of the last template for it
-pub for_last : (number : ℕ) (ts : List Template) (rs : List Rule) → AreRulesOf ts rs → IsRuleFor (last_that (by_number number) ts) (last_that (is_named number) rs)
+pub for_last : (number : ℕ) (ts : List Template) (rs : List Rule) → AreRulesOf ts rs → IsRuleFor (last_that (by_number number) ts) (last_that (is_rule_for number) rs)
 for_last number [] [] all = tt
 for_last number [] (r ∷ rs) all = absurd all
 for_last number (t ∷ ts) [] all = absurd all
 for_last number (t ∷ ts) (r ∷ rs) all =
     for_otherwise (last_that (by_number number) ts) (cond (by_number number t) (Some t) None)
-    (last_that (is_named number) rs) (cond (is_named number r) (Some r) None)
+    (last_that (is_rule_for number) rs) (cond (is_rule_for number r) (Some r) None)
     (for_last number ts rs all.1)
-    (for_if (by_number number t) (is_named number r) t r (ap (is_number number) (sym all.0.named)) all.0)
+    (for_if (by_number number t) (is_rule_for number r) t r (ap (is_number number) (sym all.0.named)) all.0)
 
 none_chosen : (names : NameTable) (b : Body Name) (o : Option Template) → IsRuleFor o None → body_or names b o ≡ b
 none_chosen names b None h = refl
@@ -107,10 +107,10 @@ name_texts names n h =
     (sym (ap (λ (o : Option (List ℕ × List ℕ)). option_map_or (λ name. name.1) o []) is))
 
 -- the test on names passes the one name
-name_decides : (name : Name) (o : Option (List ℕ × List ℕ)) → Decides (is_name name o) (o ≡ Some (name.uri, name.local))
+name_decides : (name : Name) (o : Option (List ℕ × List ℕ)) → Decides (is_entry_named name o) (o ≡ Some (name.uri, name.local))
 name_decides name None = (λ e. absurd (cc), λ e. absurd (cc))
 name_decides name (Some entry) =
-    Decides-like (is_name name (Some entry))
+    Decides-like (is_entry_named name (Some entry))
     (λ both. ap₂ (λ (u l : List ℕ). Some (u, l)) both.0 both.1)
     (λ e. let same : entry ≡ (name.uri, name.local) = cc in (ap (λ (x : List ℕ × List ℕ). x.0) same, ap (λ (x : List ℕ × List ℕ). x.1) same))
     (Decides-and (bytes_eq entry.0 name.uri) (bytes_eq entry.1 name.local) (bytes_eq-Decides entry.0 name.uri) (bytes_eq-Decides entry.1 name.local))
@@ -150,17 +150,17 @@ module _ (known names : NameTable) (keeps : KeepsPlaces known names) where
 
   module _ (distinct : IsDistinct names) (label : Label) (there : label.number < length names) where
     -- the two tests agree on the numbers of before
-    one_same : (n : ℕ) → n < length known → is_name (name_at names label) (slice_get known n) ≡ nat_eq n label.number
+    one_same : (n : ℕ) → n < length known → is_entry_named (name_at names label) (slice_get known n) ≡ nat_eq n label.number
     one_same n h =
         let texts : slice_get names label.number ≡ Some (uri_at names label.number, local_at names label.number) = name_texts names label.number there in
-        sym (same_from_decides (nat_eq n label.number) (is_name (name_at names label) (slice_get known n)) (Decides-eqb n label.number)
-        (Decides-like (is_name (name_at names label) (slice_get known n))
+        sym (same_from_decides (nat_eq n label.number) (is_entry_named (name_at names label) (slice_get known n)) (Decides-eqb n label.number)
+        (Decides-like (is_entry_named (name_at names label) (slice_get known n))
         (λ e. distinct n label.number (uri_at names label.number, local_at names label.number) (keeps n h ∙ e) texts)
         (λ e. sym (keeps n h) ∙ ap (slice_get names) e ∙ texts)
         (name_decides (name_at names label) (slice_get known n))))
 
     pattern_same : (p : Option NamePattern) → IsKnownPattern (length known) p
-        → pattern_passes (λ (n : ℕ). is_name (name_at names label) (slice_get known n)) p ≡ is_number label.number (pattern_name p)
+        → pattern_passes (λ (n : ℕ). is_entry_named (name_at names label) (slice_get known n)) p ≡ is_number label.number (pattern_name p)
     pattern_same None h = refl
     pattern_same (Some p) h = one_same p.name h
 
@@ -171,14 +171,14 @@ module _ (known names : NameTable) (keeps : KeepsPlaces known names) where
 
     module _ (ts : List Template) (rs : List Rule) (k : AreKnown (length known) ts) (all : AreRulesOf ts rs) (b : Body Name) where
       -- where no rule is found, no template matches the name
-      pub not_found : last_that (is_named label.number) rs ≡ None → body_or known b (last_that (matches known (name_at names label)) ts) ≡ b
+      pub not_found : last_that (is_rule_for label.number) rs ≡ None → body_or known b (last_that (matches known (name_at names label)) ts) ≡ b
       not_found e =
           ap (body_or known b) (last_same ts k)
           ∙ none_chosen known b (last_that (by_number label.number) ts)
           (subst (IsRuleFor (last_that (by_number label.number) ts)) e (for_last label.number ts rs all))
 
       -- the rule that is found has the plan of the last template that matches
-      pub found : (left : ℕ) (r : Rule) → last_that (is_named label.number) rs ≡ Some r
+      pub found : (left : ℕ) (r : Rule) → last_that (is_rule_for label.number) rs ≡ Some r
           → plan_of left (body_or known b (last_that (matches known (name_at names label)) ts)) ≡ read_plan known r.plan
       found left r e =
           ap (λ (o : Option Template). plan_of left (body_or known b o)) (last_same ts k)

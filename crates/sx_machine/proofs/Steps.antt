@@ -6,7 +6,7 @@ use Rattle.sx_machine.specs.declared.session.Job.{Job}
 use Rattle.sx_machine.specs.declared.session.Job.TheVariants as job
 use Rattle.sx_machine.specs.Body.{Body}
 use Rattle.sx_machine.specs.Run.{Output, gives, next, invoked, applied, element_node, text_node, instruction_node}
-use Rattle.sx_machine.specs.Plan.{Plan, still, looking, Task, plan_of, before_of, job_of, after_of, content, entered, first, tasks, reacts, closing, last_closing, last_job, ending_of, saying, instructing}
+use Rattle.sx_machine.specs.Plan.{Plan, still, looking, Task, plan_of, before_of, job_of, after_of, job_content, entered, first, tasks, reacts, closing_task, last_closing, last_job, ending_of_tasks, saying, instructing}
 use Rattle.sx_machine.proofs.Outs.{waiting, resume, IsGoing, IsSettled, next-assoc, going-next, next_going, next_settled, resume_going, resume_behind, end_here, next-nil}
 use Rattle.sx_machine.proofs.Bodies.{IsGood}
 use Rattle.sx_machine.proofs.Splits.{mean, split, plan_settled}
@@ -44,7 +44,7 @@ sound_at left (looking a b) e = absurd (cc)
 module _ {E : Type 0} (is_copying : Bool) (chosen : E → Body Name) (good : (e : E) → IsGood (chosen e)) where
   -- what comes of an element behind what comes first
   abbrev tail : Task → Bool → Forest E → Output
-  tail t o kids = next (content is_copying chosen t.job o kids) t.after
+  tail t o kids = next (job_content is_copying chosen t.job o kids) t.after
 
   -- a template at an element, in three parts
   at_element : (left : ℕ) (e : E) (o : Bool) (kids : Forest E) →
@@ -52,7 +52,7 @@ module _ {E : Type 0} (is_copying : Bool) (chosen : E → Body Name) (good : (e 
   at_element zero e o kids = refl
   at_element (suc left) e o kids =
       split left (applied is_copying chosen left o kids) (chosen e) (good e)
-      ∙ in_three left (plan_of left (chosen e)) (applied is_copying chosen left o kids) (λ (j : Job). content is_copying chosen j o kids) refl refl
+      ∙ in_three left (plan_of left (chosen e)) (applied is_copying chosen left o kids) (λ (j : Job). job_content is_copying chosen j o kids) refl refl
 
   entered_sound : (j : Job) (e : E) → IsSound (entered chosen j e)
   entered_sound job.Skip e = λ _. refl
@@ -77,31 +77,31 @@ module _ {E : Type 0} (is_copying : Bool) (chosen : E → Body Name) (good : (e 
   instruction_settled zero target c = tt
   instruction_settled (suc left) target c = tt
 
-  element_settled : (left : ℕ) (e : E) (kids : Forest E) → IsSettled (content is_copying chosen (entered chosen (job.Apply left) e).job false kids) → IsSettled (invoked is_copying chosen left (element_node e false kids))
+  element_settled : (left : ℕ) (e : E) (kids : Forest E) → IsSettled (job_content is_copying chosen (entered chosen (job.Apply left) e).job false kids) → IsSettled (invoked is_copying chosen left (element_node e false kids))
   element_settled left e kids h =
       let t : Task = entered chosen (job.Apply left) e in
       subst IsSettled (sym (at_element left e false kids))
-      (next_settled (first chosen (job.Apply left) e) (tail t false kids) (first_settled (job.Apply left) e) (next_settled (content is_copying chosen t.job false kids) t.after h (after_settled (job.Apply left) e)))
+      (next_settled (first chosen (job.Apply left) e) (tail t false kids) (first_settled (job.Apply left) e) (next_settled (job_content is_copying chosen t.job false kids) t.after h (after_settled (job.Apply left) e)))
 
-  settled_none : (j : Job) → IsSettled (content is_copying chosen j false none)
+  settled_none : (j : Job) → IsSettled (job_content is_copying chosen j false none)
   settled_none job.Skip = tt
   settled_none (job.Apply left) = tt
 
-  settled_text : (j : Job) (s : List ℕ) (rest : Forest E) → IsSettled (content is_copying chosen j false rest) → IsSettled (content is_copying chosen j false (text s rest))
+  settled_text : (j : Job) (s : List ℕ) (rest : Forest E) → IsSettled (job_content is_copying chosen j false rest) → IsSettled (job_content is_copying chosen j false (text s rest))
   settled_text job.Skip s rest h = tt
   settled_text (job.Apply left) s rest h = next_settled (invoked is_copying chosen left (text_node s)) (applied is_copying chosen left false rest) (text_settled left s) h
 
-  settled_instruction : (j : Job) (target c : List ℕ) (rest : Forest E) → IsSettled (content is_copying chosen j false rest) → IsSettled (content is_copying chosen j false (instruction target c rest))
+  settled_instruction : (j : Job) (target c : List ℕ) (rest : Forest E) → IsSettled (job_content is_copying chosen j false rest) → IsSettled (job_content is_copying chosen j false (instruction target c rest))
   settled_instruction job.Skip target c rest h = tt
   settled_instruction (job.Apply left) target c rest h = next_settled (invoked is_copying chosen left (instruction_node target c)) (applied is_copying chosen left false rest) (instruction_settled left target c) h
 
-  settled_element : (j : Job) (e : E) (b : Bool) (kids rest : Forest E) → IsSettled (content is_copying chosen (entered chosen j e).job false kids) → IsSettled (content is_copying chosen j false rest) →
-      IsSettled (content is_copying chosen j false (element e b kids rest))
+  settled_element : (j : Job) (e : E) (b : Bool) (kids rest : Forest E) → IsSettled (job_content is_copying chosen (entered chosen j e).job false kids) → IsSettled (job_content is_copying chosen j false rest) →
+      IsSettled (job_content is_copying chosen j false (element e b kids rest))
   settled_element job.Skip e b kids rest h k = tt
   settled_element (job.Apply left) e b kids rest h k = next_settled (invoked is_copying chosen left (element_node e false kids)) (applied is_copying chosen left false rest) (element_settled left e kids h) k
 
   -- closed children are settled
-  pub settled : (kids : Forest E) (j : Job) → IsSettled (content is_copying chosen j false kids)
+  pub settled : (kids : Forest E) (j : Job) → IsSettled (job_content is_copying chosen j false kids)
   settled none j = settled_none j
   settled (text s rest) j = settled_text j s rest (settled rest j)
   settled (instruction target c rest) j = settled_instruction j target c rest (settled rest j)
@@ -143,7 +143,7 @@ module _ {E : Type 0} (is_copying : Bool) (chosen : E → Body Name) (good : (e 
   last_closing_going t [] = next_going t.after waiting tt
   last_closing_going t (u ∷ ts) = last_closing_going u ts
 
-  ending_going : (ts : List Task) → IsGoing (ending_of ts)
+  ending_going : (ts : List Task) → IsGoing (ending_of_tasks ts)
   ending_going [] = tt
   ending_going (t ∷ ts) = last_closing_going t ts
 
@@ -161,14 +161,14 @@ module _ {E : Type 0} (is_copying : Bool) (chosen : E → Body Name) (good : (e 
   skip_stays (element e true kids rest) = skip_stays kids
   skip_stays (element e false kids rest) = skip_stays rest
 
-  skip_closes : (t : Task) (kids : Forest E) → closing t ≡ waiting → last_closing t (tasks chosen job.Skip kids) ≡ waiting
+  skip_closes : (t : Task) (kids : Forest E) → closing_task t ≡ waiting → last_closing t (tasks chosen job.Skip kids) ≡ waiting
   skip_closes t none h = h
   skip_closes t (text s rest) h = skip_closes t rest h
   skip_closes t (instruction target c rest) h = skip_closes t rest h
   skip_closes t (element e true kids rest) h = skip_closes (entered chosen job.Skip e) kids refl
   skip_closes t (element e false kids rest) h = skip_closes t rest h
 
-  skip_ends : (kids : Forest E) → ending_of (tasks chosen job.Skip kids) ≡ waiting
+  skip_ends : (kids : Forest E) → ending_of_tasks (tasks chosen job.Skip kids) ≡ waiting
   skip_ends none = refl
   skip_ends (text s rest) = skip_ends rest
   skip_ends (instruction target c rest) = skip_ends rest
@@ -183,22 +183,22 @@ module _ {E : Type 0} (is_copying : Bool) (chosen : E → Body Name) (good : (e 
   skip_quiet kids closes g = absurd g
 
   -- an open element
-  inside : (t : Task) → IsSound t → (kids : Forest E) → (j : Job) → t.job ≡ j → next (tail t true kids) waiting ≡ next (content is_copying chosen t.job true kids) waiting
+  inside : (t : Task) → IsSound t → (kids : Forest E) → (j : Job) → t.job ≡ j → next (tail t true kids) waiting ≡ next (job_content is_copying chosen t.job true kids) waiting
   inside t sound kids job.Skip e = rw (e, sound e) refl
   inside t sound kids (job.Apply left) e = rw e (ap (λ (x : Output). next x waiting) (going-next (applied is_copying chosen left true kids) t.after (going left kids)))
 
   open_element : (left : ℕ) (e : E) (kids : Forest E) →
-      next (invoked is_copying chosen left (element_node e true kids)) waiting ≡ next (first chosen (job.Apply left) e) (next (content is_copying chosen (entered chosen (job.Apply left) e).job true kids) waiting)
+      next (invoked is_copying chosen left (element_node e true kids)) waiting ≡ next (first chosen (job.Apply left) e) (next (job_content is_copying chosen (entered chosen (job.Apply left) e).job true kids) waiting)
   open_element left e kids =
       let t : Task = entered chosen (job.Apply left) e in
       ap (λ (x : Output). next x waiting) (at_element left e true kids) ∙ next-assoc (first chosen (job.Apply left) e) (tail t true kids) waiting
       ∙ ap (λ (x : Output). next (first chosen (job.Apply left) e) x) (inside t (entered_sound (job.Apply left) e) kids t.job refl)
 
   abbrev Next : Job → Forest E → TreeEvent E → Type 0
-  Next j f h = content is_copying chosen j true (pushed f h) ≡ resume (content is_copying chosen j true f) (reacts is_copying chosen j (tasks chosen j f) h)
+  Next j f h = job_content is_copying chosen j true (pushed f h) ≡ resume (job_content is_copying chosen j true f) (reacts is_copying chosen j (tasks chosen j f) h)
 
   deeper : (j : Job) (kids : Forest E) (h : TreeEvent E) → GoesOn h →
-      next (resume (content is_copying chosen j true kids) (reacts is_copying chosen j (tasks chosen j kids) h)) waiting ≡ resume (next (content is_copying chosen j true kids) waiting) (reacts is_copying chosen j (tasks chosen j kids) h)
+      next (resume (job_content is_copying chosen j true kids) (reacts is_copying chosen j (tasks chosen j kids) h)) waiting ≡ resume (next (job_content is_copying chosen j true kids) waiting) (reacts is_copying chosen j (tasks chosen j kids) h)
   deeper job.Skip kids h g = ap (λ (r : Output). next (resume (gives []) r) waiting) (skip_quiet kids h g) ∙ ap (λ (r : Output). resume (next (gives []) waiting) r) (sym (skip_quiet kids h g))
   deeper (job.Apply left) kids h g =
       let x : Output = applied is_copying chosen left true kids in
@@ -207,7 +207,7 @@ module _ {E : Type 0} (is_copying : Bool) (chosen : E → Body Name) (good : (e 
       ∙ ap (λ (y : Output). resume y r) (sym (going-next x waiting (going left kids)))
 
   step_inside : (j : Job) (e : E) (kids rest after : Forest E) (h : TreeEvent E) → GoesOn h → Next (entered chosen j e).job kids h →
-      content is_copying chosen j true (element e true (pushed kids h) after) ≡ resume (content is_copying chosen j true (element e true kids rest)) (reacts is_copying chosen (entered chosen j e).job (tasks chosen (entered chosen j e).job kids) h)
+      job_content is_copying chosen j true (element e true (pushed kids h) after) ≡ resume (job_content is_copying chosen j true (element e true kids rest)) (reacts is_copying chosen (entered chosen j e).job (tasks chosen (entered chosen j e).job kids) h)
   step_inside job.Skip e kids rest after h g k = ap (resume (gives [])) (sym (skip_quiet kids h g))
   step_inside (job.Apply left) e kids rest after h g k =
       let t : Task = entered chosen (job.Apply left) e in
@@ -215,47 +215,47 @@ module _ {E : Type 0} (is_copying : Bool) (chosen : E → Body Name) (good : (e 
       let r : Output = reacts is_copying chosen t.job (tasks chosen t.job kids) h in
       open_element left e (pushed kids h) ∙ ap (λ (x : Output). next a (next x waiting)) k
       ∙ ap (λ (x : Output). next a x) (deeper t.job kids h g)
-      ∙ resume_behind a (next (content is_copying chosen t.job true kids) waiting) r (first_settled (job.Apply left) e)
+      ∙ resume_behind a (next (job_content is_copying chosen t.job true kids) waiting) r (first_settled (job.Apply left) e)
       ∙ ap (λ (x : Output). resume x r) (sym (open_element left e kids))
 
   closed_tail : (t : Task) → IsSound t → (kids : Forest E) → has_open kids ≡ false → (j : Job) → t.job ≡ j →
-      next (tail t false kids) waiting ≡ resume (next (content is_copying chosen t.job true kids) waiting) (closing t)
+      next (tail t false kids) waiting ≡ resume (next (job_content is_copying chosen t.job true kids) waiting) (closing_task t)
   closed_tail t sound kids h job.Skip e = rw (e, sound e) refl
   closed_tail t sound kids h (job.Apply left) e =
-      rw (e, closed left kids h) (end_here (applied is_copying chosen left true kids) t.after (going left kids) ∙ ap (λ (x : Output). resume x (closing t)) (sym (going-next (applied is_copying chosen left true kids) waiting (going left kids))))
+      rw (e, closed left kids h) (end_here (applied is_copying chosen left true kids) t.after (going left kids) ∙ ap (λ (x : Output). resume x (closing_task t)) (sym (going-next (applied is_copying chosen left true kids) waiting (going left kids))))
 
   step_close : (j : Job) (e : E) (kids rest : Forest E) → has_open kids ≡ false →
-      content is_copying chosen j true (element e false kids none) ≡ resume (content is_copying chosen j true (element e true kids rest)) (closing (entered chosen j e))
+      job_content is_copying chosen j true (element e false kids none) ≡ resume (job_content is_copying chosen j true (element e true kids rest)) (closing_task (entered chosen j e))
   step_close job.Skip e kids rest h = refl
   step_close (job.Apply left) e kids rest h =
       let t : Task = entered chosen (job.Apply left) e in
       let a : Output = first chosen (job.Apply left) e in
       ap (λ (x : Output). next x waiting) (at_element left e false kids) ∙ next-assoc a (tail t false kids) waiting
       ∙ ap (λ (x : Output). next a x) (closed_tail t (entered_sound (job.Apply left) e) kids h t.job refl)
-      ∙ resume_behind a (next (content is_copying chosen t.job true kids) waiting) (closing t) (first_settled (job.Apply left) e)
-      ∙ ap (λ (x : Output). resume x (closing t)) (sym (open_element left e kids))
+      ∙ resume_behind a (next (job_content is_copying chosen t.job true kids) waiting) (closing_task t) (first_settled (job.Apply left) e)
+      ∙ ap (λ (x : Output). resume x (closing_task t)) (sym (open_element left e kids))
 
-  step_text : (j : Job) (s : List ℕ) (rest after : Forest E) (r : Output) → content is_copying chosen j true after ≡ resume (content is_copying chosen j true rest) r →
-      content is_copying chosen j true (text s after) ≡ resume (content is_copying chosen j true (text s rest)) r
+  step_text : (j : Job) (s : List ℕ) (rest after : Forest E) (r : Output) → job_content is_copying chosen j true after ≡ resume (job_content is_copying chosen j true rest) r →
+      job_content is_copying chosen j true (text s after) ≡ resume (job_content is_copying chosen j true (text s rest)) r
   step_text job.Skip s rest after r k = refl
   step_text (job.Apply left) s rest after r k =
       ap (λ (x : Output). next (invoked is_copying chosen left (text_node s)) x) k ∙ resume_behind (invoked is_copying chosen left (text_node s)) (applied is_copying chosen left true rest) r (text_settled left s)
 
-  step_instruction : (j : Job) (target c : List ℕ) (rest after : Forest E) (r : Output) → content is_copying chosen j true after ≡ resume (content is_copying chosen j true rest) r →
-      content is_copying chosen j true (instruction target c after) ≡ resume (content is_copying chosen j true (instruction target c rest)) r
+  step_instruction : (j : Job) (target c : List ℕ) (rest after : Forest E) (r : Output) → job_content is_copying chosen j true after ≡ resume (job_content is_copying chosen j true rest) r →
+      job_content is_copying chosen j true (instruction target c after) ≡ resume (job_content is_copying chosen j true (instruction target c rest)) r
   step_instruction job.Skip target c rest after r k = refl
   step_instruction (job.Apply left) target c rest after r k =
       ap (λ (x : Output). next (invoked is_copying chosen left (instruction_node target c)) x) k
       ∙ resume_behind (invoked is_copying chosen left (instruction_node target c)) (applied is_copying chosen left true rest) r (instruction_settled left target c)
 
-  step_behind : (j : Job) (e : E) (kids rest after : Forest E) (r : Output) → content is_copying chosen j true after ≡ resume (content is_copying chosen j true rest) r →
-      content is_copying chosen j true (element e false kids after) ≡ resume (content is_copying chosen j true (element e false kids rest)) r
+  step_behind : (j : Job) (e : E) (kids rest after : Forest E) (r : Output) → job_content is_copying chosen j true after ≡ resume (job_content is_copying chosen j true rest) r →
+      job_content is_copying chosen j true (element e false kids after) ≡ resume (job_content is_copying chosen j true (element e false kids rest)) r
   step_behind job.Skip e kids rest after r k = refl
   step_behind (job.Apply left) e kids rest after r k =
       ap (λ (x : Output). next (invoked is_copying chosen left (element_node e false kids)) x) k
       ∙ resume_behind (invoked is_copying chosen left (element_node e false kids)) (applied is_copying chosen left true rest) r (element_settled left e kids (settled kids (entered chosen (job.Apply left) e).job))
 
-  fresh : (j : Job) → next (content is_copying chosen j true none) waiting ≡ waiting
+  fresh : (j : Job) → next (job_content is_copying chosen j true none) waiting ≡ waiting
   fresh job.Skip = refl
   fresh (job.Apply left) = refl
 
@@ -291,7 +291,7 @@ module _ {E : Type 0} (is_copying : Bool) (chosen : E → Body Name) (good : (e 
   no_tasks j (element e true kids rest) h = absurd (cc)
   no_tasks j (element e false kids rest) h = no_tasks j rest h
 
-  closes_deeper : (i : Job) (t : Task) (kids : Forest E) → has_open kids ≡ true → last_closing t (tasks chosen i kids) ≡ ending_of (tasks chosen i kids)
+  closes_deeper : (i : Job) (t : Task) (kids : Forest E) → has_open kids ≡ true → last_closing t (tasks chosen i kids) ≡ ending_of_tasks (tasks chosen i kids)
   closes_deeper i t none h = absurd (cc)
   closes_deeper i t (text s rest) h = closes_deeper i t rest h
   closes_deeper i t (instruction target c rest) h = closes_deeper i t rest h
@@ -299,14 +299,14 @@ module _ {E : Type 0} (is_copying : Bool) (chosen : E → Body Name) (good : (e 
   closes_deeper i t (element e false kids rest) h = closes_deeper i t rest h
 
   step_end : (b : Bool) (j : Job) (e : E) (kids rest : Forest E) → has_open kids ≡ b → Next (entered chosen j e).job kids ends →
-      content is_copying chosen j true (cond b (element e true (push_end kids) none) (element e false kids none)) ≡
-      resume (content is_copying chosen j true (element e true kids rest)) (reacts is_copying chosen j (entered chosen j e ∷ tasks chosen (entered chosen j e).job kids) ends)
+      job_content is_copying chosen j true (cond b (element e true (push_end kids) none) (element e false kids none)) ≡
+      resume (job_content is_copying chosen j true (element e true kids rest)) (reacts is_copying chosen j (entered chosen j e ∷ tasks chosen (entered chosen j e).job kids) ends)
   step_end true j e kids rest p k =
       step_inside j e kids rest none ends tt k
-      ∙ ap (λ (r : Output). resume (content is_copying chosen j true (element e true kids rest)) r) (sym (closes_deeper (entered chosen j e).job (entered chosen j e) kids p))
+      ∙ ap (λ (r : Output). resume (job_content is_copying chosen j true (element e true kids rest)) r) (sym (closes_deeper (entered chosen j e).job (entered chosen j e) kids p))
   step_end false j e kids rest p k =
       step_close j e kids rest p
-      ∙ ap (λ (ts : List Task). resume (content is_copying chosen j true (element e true kids rest)) (reacts is_copying chosen j (entered chosen j e ∷ ts) ends)) (sym (no_tasks (entered chosen j e).job kids p))
+      ∙ ap (λ (ts : List Task). resume (job_content is_copying chosen j true (element e true kids rest)) (reacts is_copying chosen j (entered chosen j e ∷ ts) ends)) (sym (no_tasks (entered chosen j e).job kids p))
 
   -- one happening more
   pub step : (f : Forest E) (j : Job) (h : TreeEvent E) → GoesOn h → Next j f h

@@ -6,7 +6,7 @@ use Rattle.sx_machine.specs.declared.session.Frame.{Frame}
 use Rattle.sx_machine.specs.declared.session.Job.{Job}
 use Rattle.sx_machine.specs.Body.{Body}
 use Rattle.sx_named.specs.Named.{Name}
-use Rattle.sx_machine.specs.Plan.{Task, entered, tasks, closing, last_closing, last_job, ending_of, task_of}
+use Rattle.sx_machine.specs.Plan.{Task, entered, tasks, closing_task, last_closing, last_job, ending_of_tasks, task_of}
 use Rattle.sx_names.specs.Numbering.{NameTable}
 
 -- all but the last
@@ -30,11 +30,11 @@ pub last_job-snoc : (j : Job) (ts : List Task) (u : Task) → last_job j (ts ++ 
 last_job-snoc j [] u = refl
 last_job-snoc j (t ∷ ts) u = last_job-snoc t.job ts u
 
-last_closing-snoc : (t u : Task) (ts : List Task) → last_closing t (ts ++ u ∷ []) ≡ closing u
+last_closing-snoc : (t u : Task) (ts : List Task) → last_closing t (ts ++ u ∷ []) ≡ closing_task u
 last_closing-snoc t u [] = refl
 last_closing-snoc t u (v ∷ ts) = last_closing-snoc v u ts
 
-pub ending-snoc : (ts : List Task) (u : Task) → ending_of (ts ++ u ∷ []) ≡ closing u
+pub ending-snoc : (ts : List Task) (u : Task) → ending_of_tasks (ts ++ u ∷ []) ≡ closing_task u
 ending-snoc [] u = refl
 ending-snoc (t ∷ ts) u = last_closing-snoc t u ts
 

@@ -22,18 +22,18 @@ pub data Body (N : Type 0) : Type 0 where
   apply : Body N → Body N
 
 -- what instructions are, each given as what it is in front of others
-abbrev pub joined : List (Body Label → Body Label) → Body Label
-joined [] = nil
-joined (f ∷ fs) = f (joined fs)
+abbrev pub joined_body : List (Body Label → Body Label) → Body Label
+joined_body [] = nil
+joined_body (f ∷ fs) = f (joined_body fs)
 
 -- an instruction in front of others
-abbrev pub in_front : ℕ → InstrForm → List (Body Label → Body Label) → Body Label → Body Label
-in_front line (form.Literal label) content rest = literal line label (joined content) rest
-in_front line (form.Text s) content rest = words s rest
-in_front line form.ApplyTemplates content rest = apply rest
+abbrev pub form_in_front : ℕ → InstrForm → List (Body Label → Body Label) → Body Label → Body Label
+form_in_front line (form.Literal label) content rest = literal line label (joined_body content) rest
+form_in_front line (form.Text s) content rest = words s rest
+form_in_front line form.ApplyTemplates content rest = apply rest
 
 abbrev pub layer : Instr-F (Body Label → Body Label) → Body Label → Body Label
-layer i = in_front i.construct.line i.form i.body
+layer i = form_in_front i.construct.line i.form i.body
 
 abbrev pub instr_in_front : Instr → Body Label → Body Label
 instr_in_front = fold-Instr (Body Label → Body Label) layer

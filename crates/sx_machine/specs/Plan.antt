@@ -36,8 +36,8 @@ then_plan (looking a b) (looking c d) = looking a (next b (next c d))
 -- the plan of a body, where so many invocations are left for attributes
 abbrev pub plan_of : ℕ → Body Name → Plan
 plan_of left nil = still (gives [])
-plan_of left (literal line name content rest) =
-    then_plan (then_plan (then_plan (still (gives (ask.starts name ∷ []))) (plan_of left content)) (still (gives (ask.ends ∷ [])))) (plan_of left rest)
+plan_of left (literal line name job_content rest) =
+    then_plan (then_plan (then_plan (still (gives (ask.starts name ∷ []))) (plan_of left job_content)) (still (gives (ask.ends ∷ [])))) (plan_of left rest)
 plan_of left (copies attributes rest) = then_plan (still (copied_attributes left attributes)) (plan_of left rest)
 plan_of left (words s rest) = then_plan (still (gives (ask.says s ∷ []))) (plan_of left rest)
 plan_of left (apply rest) = then_plan (looking (gives []) (gives [])) (plan_of left rest)
@@ -124,8 +124,8 @@ abbrev pub idle : Task
 idle = record { job = job.Skip; after = gives [] }
 
 -- what comes at the end of an element with this task
-abbrev pub closing : Task → Output
-closing t = next t.after (nothing waits)
+abbrev pub closing_task : Task → Output
+closing_task t = next t.after (nothing waits)
 
 -- the work for the children of the innermost open element
 abbrev pub last_job : Job → List Task → Job
@@ -133,13 +133,13 @@ last_job j [] = j
 last_job j (t ∷ ts) = last_job t.job ts
 
 abbrev pub last_closing : Task → List Task → Output
-last_closing t [] = closing t
+last_closing t [] = closing_task t
 last_closing t (u ∷ ts) = last_closing u ts
 
 -- what comes at an end: nothing where no element is open
-abbrev pub ending_of : List Task → Output
-ending_of [] = nothing waits
-ending_of (t ∷ ts) = last_closing t ts
+abbrev pub ending_of_tasks : List Task → Output
+ending_of_tasks [] = nothing waits
+ending_of_tasks (t ∷ ts) = last_closing t ts
 
 -- what comes with a text
 abbrev pub saying : Job → List ℕ → Output
@@ -176,14 +176,14 @@ module _ {E : Type 0} (chosen : E → Body Name) where
 
 module _ {E : Type 0} (is_copying : Bool) (chosen : E → Body Name) where
   -- what a job gives at an element with these children
-  abbrev pub content : Job → Bool → Forest E → Output
-  content job.Skip is_open kids = gives []
-  content (job.Apply left) is_open kids = applied is_copying chosen left is_open kids
+  abbrev pub job_content : Job → Bool → Forest E → Output
+  job_content job.Skip is_open kids = gives []
+  job_content (job.Apply left) is_open kids = applied is_copying chosen left is_open kids
 
   -- what comes with what happens, where these are the tasks of the open elements
   abbrev pub reacts : Job → List Task → TreeEvent E → Output
   reacts j ts (starts e) = next (first chosen (last_job j ts) e) (nothing waits)
-  reacts j ts ends = ending_of ts
+  reacts j ts ends = ending_of_tasks ts
   reacts j ts (says s) = saying (last_job j ts) s
   reacts j ts (instructs target c) = instructing is_copying (last_job j ts) target c
   reacts j ts closes = gives []

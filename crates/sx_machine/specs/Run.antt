@@ -29,14 +29,14 @@ nothing e = record { raw = []; ending = e }
 abbrev pub gives : List Asked → Output
 gives raws = record { raw = raws; ending = done }
 
-abbrev pub behind : List Asked → Ending → Output → Output
-behind raws done o = record { raw = raws ++ o.raw; ending = o.ending }
-behind raws waits o = record { raw = raws; ending = waits }
-behind raws (stops c) o = record { raw = raws; ending = stops c }
+abbrev pub output_behind : List Asked → Ending → Output → Output
+output_behind raws done o = record { raw = raws ++ o.raw; ending = o.ending }
+output_behind raws waits o = record { raw = raws; ending = waits }
+output_behind raws (stops c) o = record { raw = raws; ending = stops c }
 
--- one behind the other, up to the first end that is not done
+-- one output_behind the other, up to the first end that is not done
 abbrev pub next : Output → Output → Output
-next a b = behind a.raw a.ending b
+next a b = output_behind a.raw a.ending b
 
 -- an element round what is given
 abbrev pub wrap : Name → Output → Output

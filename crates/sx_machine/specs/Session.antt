@@ -21,7 +21,7 @@ use Rattle.sx_machine.specs.Choice.{chosen_for, last_that}
 use Rattle.sx_machine.specs.Run.{Ending, done, waits, stops, ending_with, Result, result_of}
 use Rattle.sx_machine.specs.Growth.{MayCome}
 use Rattle.sx_machine.specs.Meaning.{IsReady, is_copying_first, meaning_on, result_for}
-use Rattle.sx_machine.specs.Writer.{StandsFor}
+use Rattle.sx_machine.specs.Writer.{WriterStands}
 use Rattle.sx_machine.specs.Plan.{AreRulesOf, task_of, tasks}
 use Rattle.sx_names.specs.Numbering.{NameTable, IsDistinct, KeepsPlaces}
 
@@ -32,11 +32,11 @@ state_of waits = state.Going
 state_of (stops c) = state.Stopped c
 
 -- what a session answers in a state
-abbrev pub step_of : State → Step
-step_of state.Going = step.Going
-step_of (state.Stopped c) = step.Stopped c
-step_of state.Closed = step.Going
-step_of state.Spent = step.Going
+abbrev pub step_from : State → Step
+step_from state.Going = step.Going
+step_from (state.Stopped c) = step.Stopped c
+step_from state.Closed = step.Going
+step_from state.Spent = step.Going
 
 -- memory was wanting in this state
 abbrev pub is_spent_state : State → Bool
@@ -74,19 +74,19 @@ is_number number None = false
 is_number number (Some n) = nat_eq n number
 
 -- a rule is for the name with this number
-abbrev pub is_named : ℕ → Rule → Bool
-is_named number r = is_number number r.name
+abbrev pub is_rule_for : ℕ → Rule → Bool
+is_rule_for number r = is_number number r.name
 
 -- at the number of each name stands the place of the last rule for it
 abbrev pub FindsLast : RuleTable → Type 0
-FindsLast table = (number : ℕ) → rule_at table.list (place_in table.places number) ≡ last_that (is_named number) table.list
+FindsLast table = (number : ℕ) → rule_at table.list (place_in table.places number) ≡ last_that (is_rule_for number) table.list
 
 -- What the builder of a session was asked for. Where the session goes on it is all that the stylesheet asks for, and the
 -- content is not at its end.
 pub record Builds (s : Session) (all : List Asked) (result : Result) (given : ℕ) : Type 0 where
   pub asked : List Asked
   pub at_end : Bool
-  pub stands : StandsFor s.writer asked at_end given
+  pub stands : WriterStands s.writer asked at_end given
   pub built_is : Build asked at_end ≡ result.built
   pub all_asked : s.state ≡ state.Going → (asked ≡ all) × (at_end ≡ false)
 
@@ -108,8 +108,8 @@ pub record Wrote (old new : Session) (more : List Asked) : Type 0 where
   pub same_rules : new.rules ≡ old.rules
   pub same_copying : new.is_copying ≡ old.is_copying
   pub same_root : new.root ≡ old.root
-  pub wrote : (asked : List Asked) (given : ℕ) → error_of asked ≡ None → StandsFor old.writer asked false given
-      → StandsFor new.writer (asked ++ more) false given × (new.state ≡ state_of (ending_with (error_of (asked ++ more)) waits))
+  pub wrote : (asked : List Asked) (given : ℕ) → error_of asked ≡ None → WriterStands old.writer asked false given
+      → WriterStands new.writer (asked ++ more) false given × (new.state ≡ state_of (ending_with (error_of (asked ++ more)) waits))
 
 -- the session is what this stylesheet has after what has happened
 abbrev pub Stands : Sheet → NameTable → ℕ → Session → List (TreeEvent NamedElement) → ℕ → Type 0

@@ -1,7 +1,7 @@
 -- What each event makes of a session that stands for an open document.
 use Rattle.std.specs.Prelude.{◌≡◌, ℕ, ◌<◌, suc, Bool, true, false, List, length, map, slice_get, Some}
 use Rattle.sx_kinds.specs.declared.sheets.Sheet.{Sheet}
-use Rattle.sx_machine.specs.Choice.{chosen_for, built_in}
+use Rattle.sx_machine.specs.Choice.{chosen_for, built_in_template}
 use Rattle.sx_machine.specs.Meaning.{is_copying_first}
 use Rattle.sx_machine.specs.Plan.{read_plan, plan_of, task_of, last_job}
 use Rattle.sx_machine.specs.Session.{StandsOn}
@@ -71,6 +71,6 @@ abbrev pub Copies : ℕ → Session → Session → NameTable → Label → List
 Copies left old new names label attrs =
     (sheet : Sheet) (known : NameTable) (invocations : ℕ) (d : Document NamedElement) (e : NamedElement) (given : ℕ) →
     e.name ≡ name_at names label → e.attributes ≡ attributes_at names attrs →
-    chosen_for known (is_copying_first sheet.modes) sheet.templates e ≡ built_in true e → d.is_open ≡ true →
+    chosen_for known (is_copying_first sheet.modes) sheet.templates e ≡ built_in_template true e → d.is_open ≡ true →
     AppliesBelow known old left →
     StandsOn sheet known invocations old d given → StandsOn sheet known invocations new (push d (starts e)) given

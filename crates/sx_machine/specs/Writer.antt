@@ -13,7 +13,7 @@ asked_attributes [] = []
 asked_attributes (a ∷ rest) = ask.has a ∷ asked_attributes rest
 
 -- the builder was asked for these, the error is theirs, and no attribute is left to be asked for
-pub record StandsFor (w : Writer) (asked : List Asked) (at_end : Bool) (given : ℕ) : Type 0 where
+pub record WriterStands (w : Writer) (asked : List Asked) (at_end : Bool) (given : ℕ) : Type 0 where
   pub builds : builder.BuilderStands w.builder asked at_end given
   pub error_is : w.error ≡ error_of asked
   pub none_turned : w.turned ≡ []

@@ -3,7 +3,7 @@ ghost use Rattle.std.specs.Prelude.{◌≡◌, ◌<◌, ◌≤◌, ℕ, Some, le
 ghost use Rattle.std.specs.Prelude.{if◌then◌else◌, IfOk, IfSome, OnOk};
 ghost use Rattle.sx_machine.specs.Choice.{last_that};
 ghost use Rattle.sx_machine.specs.Plan.{AreRulesOf};
-ghost use Rattle.sx_machine.specs.Session.{rule_at, place_in, is_named};
+ghost use Rattle.sx_machine.specs.Session.{rule_at, place_in, is_rule_for};
 
 use crate::plans::{Rule, rules_from};
 use sqlite_items::Items;
@@ -41,7 +41,8 @@ fn note(
     names: &Names,
 ) -> Result<(), AllocError>
     ensures noted { OnOk result ((n : ℕ) → n < length names.now
-        → place_in places.new n ≡ (if is_named n rule.now then Some place else place_in places.old n)) }
+        → place_in places.new n
+        ≡ (if is_rule_for n rule.now then Some place else place_in places.old n)) }
     ensures bound { OnOk result (length places.old ≤ length names.now
         → length places.new ≤ length names.now) }
 {
@@ -58,7 +59,7 @@ fn places_from(
     names: &Names,
 ) -> Result<Items<Option<usize>>, AllocError>
     ensures found { IfOk result (λ places. (n : ℕ) → n < length names.now
-        → rule_at rules.now (place_in places n) ≡ last_that (is_named n) rules.now) }
+        → rule_at rules.now (place_in places n) ≡ last_that (is_rule_for n) rules.now) }
     ensures bound { IfOk result (λ places. length places ≤ length names.now) }
 {
     let mut places = Items::new(alloc);
@@ -77,7 +78,7 @@ impl RuleTable {
     ) -> Result<RuleTable, AllocError>
         ensures rules { IfOk result (λ table. AreRulesOf templates.now table.list) }
         ensures found { IfOk result (λ table. (n : ℕ) → n < length names.now
-            → rule_at table.list (place_in table.places n) ≡ last_that (is_named n) table.list) }
+            → rule_at table.list (place_in table.places n) ≡ last_that (is_rule_for n) table.list) }
         ensures bound { IfOk result (λ table. length table.places ≤ length names.now) }
     {
         let list = rules_from(alloc, templates)?;

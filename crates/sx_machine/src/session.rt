@@ -7,7 +7,7 @@ ghost use Rattle.sx_kinds.specs.declared.sheets.Sheet.{Sheet as Stylesheet};
 ghost use Rattle.sx_machine.specs.declared.plans.Rule.{Rule as RuleOf};
 ghost use Rattle.sx_machine.specs.declared.session.Job.TheVariants as job;
 ghost use Rattle.sx_machine.specs.declared.session.State.TheVariants as state;
-ghost use Rattle.sx_machine.specs.Choice.{chosen_for, built_in};
+ghost use Rattle.sx_machine.specs.Choice.{chosen_for, built_in_template};
 ghost use Rattle.sx_machine.specs.Meaning.{is_copying_first};
 ghost use Rattle.sx_machine.specs.Plan.{read_raws, read_plan, plan_of, job_of, after_rule, after_at, task_of};
 ghost use Rattle.sx_machine.specs.Plan.{last_job};
@@ -170,7 +170,7 @@ impl Session {
     ghost use Rattle.sx_machine.specs.Growth.{MayCome};
     ghost use Rattle.sx_machine.specs.Meaning.{IsReady, result_for};
     ghost use Rattle.sx_machine.specs.Session.{StandsOn, Stands, Wrote, Advances, AdvancesToClose, IsOutput};
-    ghost use Rattle.sx_machine.specs.Session.{AllTaken, step_of, is_spent};
+    ghost use Rattle.sx_machine.specs.Session.{AllTaken, step_from, is_spent};
     ghost use Rattle.sx_machine.specs.Steps.{AdvancesBy, AdvancesByClose, AdvancesByEnd, AdvancesByStart};
     ghost use Rattle.sx_machine.specs.Steps.{Enters, Invokes, Copies};
     ghost use Rattle.sx_named.specs.Named.{NamedElement, named_in_tree, name_at, attributes_at, IsKnown};
@@ -204,7 +204,7 @@ impl Session {
     /// goes on to answer that. After an `AllocError` the session is spent: each later call that takes an event answers one.
     pub fn feed(&mut self, e: Event, names: &mut Names) -> Result<Step, AllocError>
         ensures stands { OnOk result (Advances self.old self.new names.old e) }
-        ensures answer { IfOk result (λ step. step ≡ step_of self.new.state) }
+        ensures answer { IfOk result (λ step. step ≡ step_from self.new.state) }
         ensures names { names.new ≡ names.old }
         ensures err { OnErr result (is_spent self.new ≡ true) }
         ensures spent { is_spent self.old ≡ true → IsErr result }
@@ -228,7 +228,7 @@ impl Session {
     /// Is told that the document has ended well: it is fed `Event::Close`.
     pub fn finish(&mut self, names: &mut Names) -> Result<Step, AllocError>
         ensures stands { OnOk result (AdvancesToClose self.old self.new names.old) }
-        ensures answer { IfOk result (λ step. step ≡ step_of self.new.state) }
+        ensures answer { IfOk result (λ step. step ≡ step_from self.new.state) }
         ensures names { names.new ≡ names.old }
         ensures err { OnErr result (is_spent self.new ≡ true) }
         ensures spent { is_spent self.old ≡ true → IsErr result }
@@ -261,7 +261,7 @@ impl Session {
 
     // What is answered in this state.
     fn step(&self) -> Step
-        ensures { result ≡ step_of self.now.state }
+        ensures { result ≡ step_from self.now.state }
     {
         match self.state {
             State::Stopped(code) => Step::Stopped(code),

@@ -3,7 +3,7 @@ ghost use Rattle.std.specs.Prelude.{◌≡◌, ◌∷◌, [], ◌++◌, ℕ, Lis
 ghost use Rattle.std.specs.Prelude.{reverse, length, drop, OnOk};
 ghost use Rattle.sx_build.specs.Asked.{Asked, asked_at, all_asked_at};
 ghost use Rattle.sx_build.specs.Build.{Build};
-ghost use Rattle.sx_machine.specs.Writer.{StandsFor, asked_attributes};
+ghost use Rattle.sx_machine.specs.Writer.{WriterStands, asked_attributes};
 ghost use Rattle.sx_named.specs.Named.{attributes_at};
 
 use sqlite_items::Items;
@@ -37,7 +37,7 @@ fn turn(turned: &mut Attrs, mut attrs: Attrs) -> Result<(), AllocError>
 impl Writer {
     /// A builder that nothing was asked of.
     pub(crate) fn new(alloc: Global) -> Writer
-        ensures { StandsFor result [] false 0 }
+        ensures { WriterStands result [] false 0 }
     {
         Writer {
             builder: Builder::new(alloc),
@@ -48,8 +48,8 @@ impl Writer {
 
     /// Asks for what comes next.
     pub(crate) fn push(&mut self, raw: Raw, names: &Names) -> Result<(), AllocError>
-        ensures { OnOk result ((asked : List Asked) (given : ℕ) → StandsFor self.old asked false given
-            → StandsFor self.new (asked ++ asked_at names.now raw ∷ []) false given) }
+        ensures { OnOk result ((asked : List Asked) (given : ℕ) → WriterStands self.old asked false given
+            → WriterStands self.new (asked ++ asked_at names.now raw ∷ []) false given) }
     {
         self.error = self.builder.push(raw, names)?.err();
         Ok(())
@@ -62,8 +62,8 @@ impl Writer {
         raws: &[Raw],
         names: &Names,
     ) -> Result<(), AllocError>
-        ensures { OnOk result ((asked : List Asked) (given : ℕ) → StandsFor self.old asked false given
-            → StandsFor self.new (asked ++ all_asked_at names.now raws.now) false given) }
+        ensures { OnOk result ((asked : List Asked) (given : ℕ) → WriterStands self.old asked false given
+            → WriterStands self.new (asked ++ all_asked_at names.now raws.now) false given) }
     {
         for raw in raws {
             self.push(Raw::copy(alloc, raw)?, names)?;
@@ -78,8 +78,9 @@ impl Writer {
         attrs: Attrs,
         names: &Names,
     ) -> Result<(), AllocError>
-        ensures { OnOk result ((asked : List Asked) (given : ℕ) → StandsFor self.old asked false given
-            → StandsFor self.new (asked ++ asked_attributes (attributes_at names.now attrs)) false given) }
+        ensures { OnOk result ((asked : List Asked) (given : ℕ) → WriterStands self.old asked false given
+            → WriterStands self.new (asked
+            ++ asked_attributes (attributes_at names.now attrs)) false given) }
     {
         let mut turned = mem::replace(&mut self.turned, Items::new(alloc));
         turn(&mut turned, attrs)?;
@@ -99,15 +100,16 @@ impl Writer {
 
     /// Is told that the content is at its end.
     pub(crate) fn finish(&mut self)
-        ensures { (asked : List Asked) (given : ℕ) → StandsFor self.old asked false given
-            → StandsFor self.new asked true given }
+        ensures { (asked : List Asked) (given : ℕ) → WriterStands self.old asked false given
+            → WriterStands self.new asked true given }
     {
         self.builder.finish();
     }
 
     /// The built events that are fixed and were not cleared yet, in order.
     pub(crate) fn output(&self) -> &[Built]
-        ensures { (asked : List Asked) (at_end : Bool) (given : ℕ) → StandsFor self.now asked at_end given
+        ensures { (asked : List Asked) (at_end : Bool) (given : ℕ)
+            → WriterStands self.now asked at_end given
             → result.now ≡ drop given (Build asked at_end) }
     {
         self.builder.output()
@@ -115,8 +117,9 @@ impl Writer {
 
     /// Drops the built events that are fixed: they were given. It takes no memory.
     pub(crate) fn clear_output(&mut self)
-        ensures { (asked : List Asked) (at_end : Bool) (given : ℕ) → StandsFor self.old asked at_end given
-            → StandsFor self.new asked at_end (length (Build asked at_end)) }
+        ensures { (asked : List Asked) (at_end : Bool) (given : ℕ)
+            → WriterStands self.old asked at_end given
+            → WriterStands self.new asked at_end (length (Build asked at_end)) }
     {
         self.builder.clear_output();
     }

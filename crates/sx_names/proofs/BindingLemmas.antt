@@ -7,7 +7,7 @@ use Rattle.std.proofs.lemmas.Bool.Decides.{Decides-eqb}
 use Rattle.std.proofs.lemmas.Slice.Eq.{bytes_eq-Decides}
 use Rattle.std.specs.Option.{option_map_or}
 use Rattle.sx_names.specs.Numbering.{IsDistinct, IsAbsent, KeepsPlaces}
-use Rattle.sx_names.specs.Inside.{text_at}
+use Rattle.sx_names.specs.Inside.{numbered_text}
 use Rattle.sx_names.specs.Scope.{bound_in}
 use Rattle.sx_names.specs.Bindings.{pair_of, pairs_of, place_in_force, AreLinked, AreBindings}
 use Rattle.sx_names.specs.declared.bindings.Binding.{Binding}
@@ -20,7 +20,7 @@ module _ (old new : List (List ℕ)) (kept : KeepsPlaces old new) where
   pub pairs-grown : (bs : List Binding) → AreLinked old bs → map (pair_of new) bs ≡ map (pair_of old) bs
   pairs-grown [] linked = refl
   pairs-grown (b ∷ bs) linked =
-      let same : text_at new b.prefix ≡ text_at old b.prefix = ap (λ o. option_map_or (λ x. x) o []) (kept b.prefix linked.0) in
+      let same : numbered_text new b.prefix ≡ numbered_text old b.prefix = ap (λ o. option_map_or (λ x. x) o []) (kept b.prefix linked.0) in
       ap (λ t. (t, string_bytes b.uri) ∷ map (pair_of new) bs) same ∙ ap (λ ps. pair_of old b ∷ ps) (pairs-grown bs linked.2)
 
   -- and the links
@@ -119,16 +119,16 @@ module _ (prefixes : List (List ℕ)) (distinct : IsDistinct prefixes) (prefix :
   pub bound_in-absent : (bs : List Binding) → AreLinked prefixes bs → IsAbsent prefixes prefix → bound_in (map (pair_of prefixes) bs) prefix ≡ None
   bound_in-absent [] linked absent = refl
   bound_in-absent (b ∷ bs) linked absent =
-      let other = not_true (bytes_eq (text_at prefixes b.prefix) prefix) (λ e.
-      absent b.prefix (place_of_text prefixes b.prefix linked.0 ∙ ap Some ((bytes_eq-Decides (text_at prefixes b.prefix) prefix).0 e))) in
+      let other = not_true (bytes_eq (numbered_text prefixes b.prefix) prefix) (λ e.
+      absent b.prefix (place_of_text prefixes b.prefix linked.0 ∙ ap Some ((bytes_eq-Decides (numbered_text prefixes b.prefix) prefix).0 e))) in
       ap (λ t. if t then Some (string_bytes b.uri) else bound_in (map (pair_of prefixes) bs) prefix) other ∙ bound_in-absent bs linked.2 absent
 
   module _ (n : ℕ) (placed : slice_get prefixes n ≡ Some prefix) where
     -- two texts are the same where their numbers are
-    same_test : (m : ℕ) → m < length prefixes → (t : Bool) → nat_eq m n ≡ t → bytes_eq (text_at prefixes m) prefix ≡ t
-    same_test m within true e = (bytes_eq-Decides (text_at prefixes m) prefix).1 (ap (text_at prefixes) (same_number m n e) ∙ text_at-place prefixes n prefix placed)
-    same_test m within false e = not_true (bytes_eq (text_at prefixes m) prefix) (λ same.
-        other_number m n e (sym (distinct m n prefix (place_of_text prefixes m within ∙ ap Some ((bytes_eq-Decides (text_at prefixes m) prefix).0 same)) placed)))
+    same_test : (m : ℕ) → m < length prefixes → (t : Bool) → nat_eq m n ≡ t → bytes_eq (numbered_text prefixes m) prefix ≡ t
+    same_test m within true e = (bytes_eq-Decides (numbered_text prefixes m) prefix).1 (ap (numbered_text prefixes) (same_number m n e) ∙ text_at-place prefixes n prefix placed)
+    same_test m within false e = not_true (bytes_eq (numbered_text prefixes m) prefix) (λ same.
+        other_number m n e (sym (distinct m n prefix (place_of_text prefixes m within ∙ ap Some ((bytes_eq-Decides (numbered_text prefixes m) prefix).0 same)) placed)))
 
     -- what is bound is the URI of the binding that is in force, if one is
     pub bound_in-none : (bs : List Binding) → AreLinked prefixes bs → place_in_force bs n ≡ None → bound_in (map (pair_of prefixes) bs) prefix ≡ None

@@ -2,7 +2,7 @@
 use Rattle.std.proofs.Common.{◌≡◌, ℕ, suc, zero, ◌<◌, ◌⊎◌, ◌↔◌, inl, inr, List, [], ◌∷◌, ◌++◌, length, slice_get, Option, None, Some, refl, sym, ap, ◌∙◌, subst, arith}
 use Rattle.std.proofs.lemmas.Option.{slice_get_within}
 use Rattle.std.specs.Option.{option_map_or}
-use Rattle.sx_names.specs.Numbering.{IsDistinct, IsAbsent, KeepsPlaces, IsNumbered, uri_at, local_at}
+use Rattle.sx_names.specs.Numbering.{IsDistinct, IsAbsent, KeepsPlaces, GetsNumber, uri_at, local_at}
 
 module _ {X : Type 0} where
   -- a push leaves the places that were there
@@ -55,7 +55,7 @@ module _ {X : Type 0} where
       by (inr p) (inr q) = p.0 ∙ sym q.0
 
   -- what has a number among distinct items keeps it, and nothing is added
-  pub number_is_place : (old new : List X) (x : X) (n k : ℕ) → IsDistinct old → IsNumbered old x n new → slice_get old k ≡ Some x → (n ≡ k) × (new ≡ old)
+  pub number_is_place : (old new : List X) (x : X) (n k : ℕ) → IsDistinct old → GetsNumber old x n new → slice_get old k ≡ Some x → (n ≡ k) × (new ≡ old)
   number_is_place old new x n k distinct (inl known) at = (distinct n k x known.0 at, known.1)
   number_is_place old new x n k distinct (inr fresh) at = absurd (fresh.0 k at)
 
@@ -74,17 +74,17 @@ module _ {X : Type 0} where
 
   module _ (old new : List X) (x : X) (n : ℕ) where
     -- it stands at its number
-    pub placed_by_number : IsNumbered old x n new → slice_get new n ≡ Some x
+    pub placed_by_number : GetsNumber old x n new → slice_get new n ≡ Some x
     placed_by_number (inl known) = ap (λ xs. slice_get xs n) known.1 ∙ known.0
     placed_by_number (inr fresh) = ap (λ xs. slice_get xs n) fresh.2 ∙ ap (slice_get (old ++ x ∷ [])) fresh.1 ∙ slice_get-push old x
 
     -- each number that was given keeps its item
-    pub kept_by_number : IsNumbered old x n new → KeepsPlaces old new
+    pub kept_by_number : GetsNumber old x n new → KeepsPlaces old new
     kept_by_number (inl known) = subst (KeepsPlaces old) (sym known.1) (KeepsPlaces-refl old)
     kept_by_number (inr fresh) = subst (KeepsPlaces old) (sym fresh.2) (KeepsPlaces-append old (x ∷ []))
 
     -- and the items stay distinct
-    pub distinct_by_number : IsDistinct old → IsNumbered old x n new → IsDistinct new
+    pub distinct_by_number : IsDistinct old → GetsNumber old x n new → IsDistinct new
     distinct_by_number distinct (inl known) = subst IsDistinct (sym known.1) distinct
     distinct_by_number distinct (inr fresh) = subst IsDistinct (sym fresh.2) (IsDistinct-push old x distinct fresh.0)
 

@@ -1,13 +1,13 @@
 -- What the tables of bindings hold, as contracts see it.
 use Rattle.std.specs.Prelude.{◌≡◌, ℕ, ◌-◌, ◌<◌, ◌≤◌, List, [], ◌∷◌, length, map, reverse, take, drop, nat_eq, Option, Some, None, slice_index_or, string_bytes, if◌then◌else◌}
 use Rattle.sx_names.specs.Numbering.{IsDistinct}
-use Rattle.sx_names.specs.Inside.{text_at}
+use Rattle.sx_names.specs.Inside.{numbered_text}
 use Rattle.sx_names.specs.Scope.{Declarations, ScopeBindings}
 use Rattle.sx_names.specs.declared.bindings.Binding.{Binding}
 
 -- the prefix and the URI of a binding
 abbrev pub pair_of : List (List ℕ) → Binding → List ℕ × List ℕ
-pair_of prefixes b = (text_at prefixes b.prefix, string_bytes b.uri)
+pair_of prefixes b = (numbered_text prefixes b.prefix, string_bytes b.uri)
 
 -- the prefixes and URIs of bindings, the last first
 abbrev pub pairs_of : List (List ℕ) → List Binding → Declarations

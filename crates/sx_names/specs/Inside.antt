@@ -9,16 +9,16 @@ abbrev pub texts_of : {Y : Type 0} → List (String Y) → List (List ℕ)
 texts_of strings = [] ∷ map (λ s. string_bytes s) strings
 
 -- the text with a number, and no bytes past the last
-abbrev pub text_at : List (List ℕ) → ℕ → List ℕ
-text_at texts n = option_map_or (λ t. t) (slice_get texts n) []
+abbrev pub numbered_text : List (List ℕ) → ℕ → List ℕ
+numbered_text texts n = option_map_or (λ t. t) (slice_get texts n) []
 
 -- the two texts of a name
-abbrev pub name_of : List (List ℕ) → List (List ℕ) → Parts → List ℕ × List ℕ
-name_of uris locals p = (text_at uris p.uri, text_at locals p.local)
+abbrev pub entry_of : List (List ℕ) → List (List ℕ) → Parts → List ℕ × List ℕ
+entry_of uris locals p = (numbered_text uris p.uri, numbered_text locals p.local)
 
 -- the names, each by its two texts
-abbrev pub names_of : List (List ℕ) → List (List ℕ) → List Parts → NameTable
-names_of uris locals parts = map (name_of uris locals) parts
+abbrev pub entries_of : List (List ℕ) → List (List ℕ) → List Parts → NameTable
+entries_of uris locals parts = map (entry_of uris locals) parts
 
 -- both texts of a name are there
 abbrev pub AreThere : List (List ℕ) → List (List ℕ) → Parts → Type 0
@@ -29,4 +29,4 @@ pub record AreNames (uris locals : List (List ℕ)) (parts : List Parts) : Type 
   pub within : (i : ℕ) → IfSome (slice_get parts i) (AreThere uris locals)
   pub uris_distinct : IsDistinct uris
   pub locals_distinct : IsDistinct locals
-  pub names_distinct : IsDistinct (names_of uris locals parts)
+  pub names_distinct : IsDistinct (entries_of uris locals parts)

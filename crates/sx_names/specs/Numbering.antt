@@ -16,8 +16,8 @@ module _ {X : Type 0} where
   KeepsPlaces old new = (i : ℕ) → i < length old → slice_get new i ≡ slice_get old i
 
   -- x has the number n: it had it and nothing changed, or it is new, goes last, and its number is how many there were
-  abbrev pub IsNumbered : List X → X → ℕ → List X → Type 0
-  IsNumbered old x n new = ((slice_get old n ≡ Some x) × (new ≡ old))
+  abbrev pub GetsNumber : List X → X → ℕ → List X → Type 0
+  GetsNumber old x n new = ((slice_get old n ≡ Some x) × (new ≡ old))
       ⊎ (IsAbsent old x × (n ≡ length old) × (new ≡ old ++ x ∷ []))
 
 -- names by their numbers: the bytes of the namespace URI and of the local name of each, at the place that is its number

@@ -1,7 +1,7 @@
 // Names and their numbers. A name is kept as the numbers of its two texts, so that a look-up copies nothing.
 ghost use Rattle.std.specs.Prelude.{◌≡◌, ℕ, Ok, ◌<◌, ◌↔◌, nat_lt, [], length, slice_get};
 ghost use Rattle.std.specs.Prelude.{Some, IfSome, IfNone, IfOk, OnErr, MatchResult};
-ghost use Rattle.sx_names.specs.Numbering.{IsDistinct, IsAbsent, KeepsPlaces, IsNumbered, uri_at, local_at};
+ghost use Rattle.sx_names.specs.Numbering.{IsDistinct, IsAbsent, KeepsPlaces, GetsNumber, uri_at, local_at};
 
 use crate::text_table::Texts;
 use indexmap::IndexSet;
@@ -28,12 +28,12 @@ pub struct Names {
 }
 
 impl Model for Names {
-    ghost use Rattle.sx_names.specs.Inside.{names_of, AreNames};
+    ghost use Rattle.sx_names.specs.Inside.{entries_of, AreNames};
     ghost use Rattle.sx_names.specs.Numbering.{NameTable};
 
     ghost Value = { NameTable };
 
-    ghost view = { λ n. names_of n.uris n.locals n.parts.keys };
+    ghost view = { λ n. entries_of n.uris n.locals n.parts.keys };
 
     ghost invariant = { λ n. AreNames n.uris n.locals n.parts.keys };
 }
@@ -52,7 +52,7 @@ pub fn new(alloc: Global) -> Names
 impl Names {
     /// The number of the name, which is the next free one if the name is new. A name that is there needs no memory.
     pub fn intern(&mut self, uri: &str, local: &str) -> Result<u64, AllocError>
-        ensures numbered { IfOk result (λ n. IsNumbered self.old (uri.now, local.now) n self.new) }
+        ensures numbered { IfOk result (λ n. GetsNumber self.old (uri.now, local.now) n self.new) }
         ensures known { (n : ℕ) → slice_get self.old n ≡ Some (uri.now, local.now) → result ≡ Ok n }
         ensures placed { IfOk result (λ n. slice_get self.new n ≡ Some (uri.now, local.now)) }
         ensures within { IfOk result (λ n. n < length self.new) }
@@ -69,7 +69,7 @@ impl Names {
     // Gives a new name the next free number.
     fn add(&mut self, uri: &str, local: &str) -> Result<u64, AllocError>
         requires { IsAbsent self.old (uri.now, local.now) }
-        ensures { MatchResult result (λ n. IsNumbered self.old (uri.now, local.now) n self.new)
+        ensures { MatchResult result (λ n. GetsNumber self.old (uri.now, local.now) n self.new)
             (λ _. self.new
             ≡ self.old) }
     {

@@ -1,7 +1,7 @@
 // Texts and their numbers.
 ghost use Rattle.std.specs.Prelude.{◌≡◌, ◌<◌, [], ◌∷◌, length, slice_get, Some, IfSome};
 ghost use Rattle.std.specs.Prelude.{IfNone, IfOk, OnErr, MatchResult};
-ghost use Rattle.sx_names.specs.Numbering.{IsDistinct, IsAbsent, KeepsPlaces, IsNumbered};
+ghost use Rattle.sx_names.specs.Numbering.{IsDistinct, IsAbsent, KeepsPlaces, GetsNumber};
 
 use indexmap::IndexSet;
 use std::alloc::{AllocError, Global};
@@ -55,7 +55,7 @@ impl Texts {
 
     /// The number of the text, which is added if it is not there.
     pub fn hold(&mut self, text: &str) -> Result<usize, AllocError>
-        ensures numbered { IfOk result (λ n. IsNumbered self.old text.now n self.new) }
+        ensures numbered { IfOk result (λ n. GetsNumber self.old text.now n self.new) }
         ensures placed { IfOk result (λ n. slice_get self.new n ≡ Some text.now) }
         ensures kept { KeepsPlaces self.old self.new }
         ensures distinct { IsDistinct self.new }
@@ -70,7 +70,7 @@ impl Texts {
     // Adds a text that is not there.
     fn add(&mut self, text: &str) -> Result<usize, AllocError>
         requires { IsAbsent self.old text.now }
-        ensures { MatchResult result (λ n. IsNumbered self.old text.now n self.new) (λ _. self.new
+        ensures { MatchResult result (λ n. GetsNumber self.old text.now n self.new) (λ _. self.new
             ≡ self.old) }
     {
         let owned = String::from_str(*self.others.allocator(), text)?;

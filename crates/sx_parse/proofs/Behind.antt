@@ -5,7 +5,7 @@ use Rattle.sx_parse.specs.declared.lexemes.Lexeme.{Lexeme}
 use Rattle.sx_parse.specs.declared.roles.Role.{Role}
 use Rattle.sx_parse.specs.Grammar.{Tree, Derives}
 use Rattle.sx_parse.specs.Machine.{State, named, start, read, ended}
-use Rattle.sx_parse.specs.Reading.{turns, IsQuiet}
+use Rattle.sx_parse.specs.Reading.{turns, SaysNothing}
 use Rattle.sx_parse.specs.Nodes.{nodes}
 use Rattle.sx_parse.specs.Roles.{roles}
 use Rattle.sx_parse.specs.Standing.{state_roles, state_nodes}
@@ -30,7 +30,7 @@ quiet_turns_none (named pre w p s) l h = h
 quiet_turns_none s l h = refl
 
 -- where no token behind them turns a name, all roles do
-pub kept : (s : State) (ls : List Lexeme) (t : Tree) → accept s ls ≡ Some t → IsQuiet ls → Leads (state_roles s) (roles 0 t)
+pub kept : (s : State) (ls : List Lexeme) (t : Tree) → accept s ls ≡ Some t → SaysNothing ls → Leads (state_roles s) (roles 0 t)
 kept s [] t e q = record { rest = []; all_are = ended_roles s t e ∙ sym (append-nil (state_roles s)) }
 kept s (l ∷ ls) t e q =
     held_step (read s l) (state_roles s) ls t (λ next r. (one_more s l next r (quiet_turns_none s l q)).stand) (λ next r. held next ls t r) e

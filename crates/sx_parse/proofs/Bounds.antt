@@ -7,7 +7,7 @@ use Rattle.sx_parse.specs.declared.lexemes.Lexeme.{Lexeme}
 use Rattle.sx_parse.specs.declared.nodes.Node.{Node}
 use Rattle.sx_parse.specs.declared.roles.Role.{Role}
 use Rattle.sx_parse.specs.Grammar.{Tree, Fits, tokens}
-use Rattle.sx_parse.specs.Numbered.{count, counts, numbers_in}
+use Rattle.sx_parse.specs.Numbered.{construct_count, counts, numbers_in}
 use Rattle.sx_parse.specs.Says.{Meaning, says, alternatives}
 use Rattle.sx_parse.specs.Understanding.{IsUnderstood}
 use Rattle.sx_parse.proofs.Counted.{count_by_tokens, pattern_count}
@@ -21,11 +21,11 @@ few_tokens p scope text ts ns rs u =
     omega (arith, same, few)
 
 pub few_constructs : (p : Bool) (scope : ScopeBindings) (text : List ℕ) (ts : List Token) (ns : List Node) (rs : List Role) (u : IsUnderstood p scope text ts ns rs)
-    (m : Meaning) (e : Expr) → e ≡ says m u.tree → suc (count e) ≤ 2 * length text
+    (m : Meaning) (e : Expr) → e ≡ says m u.tree → suc (construct_count e) ≤ 2 * length text
 few_constructs p scope text ts ns rs u m e is =
     let few = few_tokens p scope text ts ns rs u in
     let counted = count_by_tokens m u.tree in
-    let same : count e ≡ count (says m u.tree) = ap count is in
+    let same : construct_count e ≡ construct_count (says m u.tree) = ap construct_count is in
     omega (arith, few, counted, same)
 
 pub few_in_pattern : (p : Bool) (scope : ScopeBindings) (text : List ℕ) (ts : List Token) (ns : List Node) (rs : List Role) (u : IsUnderstood p scope text ts ns rs)

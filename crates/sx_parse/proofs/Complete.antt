@@ -16,7 +16,7 @@ use Rattle.sx_parse.specs.declared.lexemes.StepPrefix.{StepPrefix}
 use Rattle.sx_parse.specs.declared.lexemes.StepPrefix.TheVariants as prefix
 use Rattle.sx_parse.specs.declared.lexemes.Test.{Test}
 use Rattle.sx_parse.specs.declared.lexemes.Test.TheVariants as test
-use Rattle.sx_parse.specs.Grammar.{operator_of, level, left_level, casting_level, prefix_level, prefix_floor, prefix_allowed, is_function, returns, begins_step, allows, Tree, literal, dot, parent, root, variable, step, empty, parens, call, called, filter, comma, prefixed, binary, cast, choice, bind, Bindings, first, also, binder_of, sign, tokens, test_tokens, question_tokens, binding_tokens, ends_in_root, value_ends_in_root, PrefixFits, TestFits, Fits, BindingsFit}
+use Rattle.sx_parse.specs.Grammar.{operator_of, level, left_level, casting_level, prefix_level, prefix_floor, prefix_allowed, is_function, returns, begins_step, allows_lexeme, Tree, literal, dot, parent, root, variable, step, empty, parens, call, called, filter, comma, prefixed, binary, cast, choice, bind, Bindings, first, also, binder_of, sign, tokens, test_tokens, question_tokens, binding_tokens, ends_in_root, value_ends_in_root, PrefixFits, TestFits, Fits, BindingsFit}
 use Rattle.sx_parse.specs.Machine.{begun, behind, Stack, bottom, pending, more, signed, paren, arguments, predicate, condition, branch, otherwise, binding, body, State, want, fresh, slash, named, axis, kind, kind_name, have, comma_bound, binder_dollar, binder_name, casting, conditioned, start, in_pattern, floor, reaches, Reached, reached, reach, close, close_bracket, else_under, comma_under, return_under, follow_operator, follow, open_plain, open_name, read, whole}
 use Rattle.sx_parse.proofs.Running.{accept}
 use Rattle.sx_parse.proofs.Pending.{le_true, level_least, level_most, level_no_sign, below_left, casting_least, casting_most, prefix_least, prefix_level_most, floor_most, fits_less, last, on, rewind, stands, stands_anywhere, keeps, last_reaches, last_alone}
@@ -194,7 +194,7 @@ operator_goes (lexeme.Mark (mark.Operator p)) o t s e = let g : p ≡ o = cc in 
 operator_goes (lexeme.Name (word.Operator p) k) o t s e = let g : p ≡ o = cc in ap (follow_operator t s (lexeme.Name (word.Operator p) k)) g
 operator_goes l o t s e = absurd cc
 
-operator_follows : (t : Tree) (l : Lexeme) (o : Operator) (s : Stack) → operator_of l ≡ Some o → allows (in_pattern s) l ≡ true → Fits (in_pattern s) (left_level o) t →
+operator_follows : (t : Tree) (l : Lexeme) (o : Operator) (s : Stack) → operator_of l ≡ Some o → allows_lexeme (in_pattern s) l ≡ true → Fits (in_pattern s) (left_level o) t →
     floor s ≤ level o → follow (last t s) (on t s) l ≡ Some (want (pending t l o s))
 operator_follows t l o s e a f h =
     let two = level_least o in

@@ -28,8 +28,8 @@ use Rattle.sx_parse.specs.declared.nodes.Node.{Node}
 use Rattle.sx_parse.specs.declared.nodes.Node.TheVariants as node
 use Rattle.sx_parse.specs.Grammar.{Tree, literal, dot, parent, root, variable, step, empty, parens, call, called, filter, comma, prefixed, binary, cast, choice, bind, Bindings, first, also, binder_of, tokens, binding_tokens, prefix_tokens, test_tokens, question_tokens}
 use Rattle.sx_parse.specs.Nodes.{takes_more, nodes, value_nodes, name_nodes}
-use Rattle.sx_parse.specs.Numbered.{Numbers, counts, count, step_count, is_path, numbers_in, numbers_with}
-use Rattle.sx_parse.specs.Says.{Meaning, made, deepened, with_part, joined_by, begun_by, cast_by, bound_by, filtered, whole, operands, bound_in, says, number_at, type_at, root_of, call_of, called_function, any_type, literal_atom, step_axis, node_test_of, alternatives}
+use Rattle.sx_parse.specs.Numbered.{Numbers, counts, construct_count, step_count, is_path, numbers_in, numbers_with}
+use Rattle.sx_parse.specs.Says.{Meaning, made, deepened, with_part, joined_by, begun_by, cast_by, bound_by, filtered, whole_expression, operands, bound_in, says, number_at, type_named_at, root_of, call_of, called_function, any_type, literal_atom, step_axis, node_test_of, alternatives}
 
 -- ---- the constructs of expressions by their parts
 
@@ -44,36 +44,36 @@ counts_append outside (e ∷ es) fs = omega (arith, counts_append outside es fs)
 all_append : (es fs : List Expr) → count_all (es ++ fs) ≡ count_all es + count_all fs
 all_append es fs = counts_append false es fs
 
-made_count : (m : Meaning) (k : ConstructKind) (f : ExprForm) (es : List Expr) → count (made m k f es) ≡ suc (count_all es)
+made_count : (m : Meaning) (k : ConstructKind) (f : ExprForm) (es : List Expr) → construct_count (made m k f es) ≡ suc (count_all es)
 made_count m k f es =
     ap (λ (n : Bool → Numbers). (n false).count)
     (fold-roll-Expr (Bool → Numbers) numbers_with (record { construct = record { number = 0; line = m.line; kind = k }; deep = deep.No; form = f; parts = es }))
 
-made_one : (m : Meaning) (k : ConstructKind) (f : ExprForm) (e : Expr) → count (made m k f (e ∷ [])) ≡ suc (count e)
+made_one : (m : Meaning) (k : ConstructKind) (f : ExprForm) (e : Expr) → construct_count (made m k f (e ∷ [])) ≡ suc (construct_count e)
 made_one m k f e = omega (arith, made_count m k f (e ∷ []))
 
-made_two : (m : Meaning) (k : ConstructKind) (f : ExprForm) (a b : Expr) → count (made m k f (a ∷ b ∷ [])) ≡ suc (count a + count b)
+made_two : (m : Meaning) (k : ConstructKind) (f : ExprForm) (a b : Expr) → construct_count (made m k f (a ∷ b ∷ [])) ≡ suc (construct_count a + construct_count b)
 made_two m k f a b = omega (arith, made_count m k f (a ∷ b ∷ []))
 
-out_count : (e : Expr) → count e ≡ suc (count_all (out-Expr e).parts)
+out_count : (e : Expr) → construct_count e ≡ suc (count_all (out-Expr e).parts)
 out_count e = ap (λ (n : Bool → Numbers). (n false).count) (fold_out-Expr (Bool → Numbers) numbers_with e)
 
-deepened_count : (e : Expr) → count (deepened e) ≡ count e
+deepened_count : (e : Expr) → construct_count (deepened e) ≡ construct_count e
 deepened_count e =
     ap (λ (n : Bool → Numbers). (n false).count)
     (fold-roll-Expr (Bool → Numbers) numbers_with
     (record { construct = (out-Expr e).construct; deep = deep.Written; form = (out-Expr e).form; parts = (out-Expr e).parts }))
     ∙ sym (out_count e)
 
-part_count : (e p : Expr) → count (with_part e p) ≡ count e + count p
+part_count : (e p : Expr) → construct_count (with_part e p) ≡ construct_count e + construct_count p
 part_count e p =
-    let l : count (with_part e p) ≡ suc (count_all ((out-Expr e).parts ++ p ∷ [])) =
+    let l : construct_count (with_part e p) ≡ suc (count_all ((out-Expr e).parts ++ p ∷ [])) =
     ap (λ (n : Bool → Numbers). (n false).count)
     (fold-roll-Expr (Bool → Numbers) numbers_with
     (record { construct = (out-Expr e).construct; deep = (out-Expr e).deep; form = (out-Expr e).form; parts = (out-Expr e).parts ++ p ∷ [] })) in
     omega (arith, l, out_count e, all_append (out-Expr e).parts (p ∷ []))
 
-joined_count : (m : Meaning) (o : Operator) (a b : Expr) → count (joined_by m o a b) ≡ suc (count a + count b)
+joined_count : (m : Meaning) (o : Operator) (a b : Expr) → construct_count (joined_by m o a b) ≡ suc (construct_count a + construct_count b)
 joined_count m operator.Or a b = made_two m kind.Or form.Or a b
 joined_count m operator.And a b = made_two m kind.And form.And a b
 joined_count m (operator.Compare op general) a b = made_two m kind.Compare (form.Compare op general) a b
@@ -85,27 +85,27 @@ joined_count m operator.Map a b = made_two m kind.Map form.Map a b
 joined_count m operator.Slash a b = made_two m kind.Path (form.Path false) a b
 joined_count m operator.DoubleSlash a b = omega (arith, made_two m kind.Path (form.Path false) a (deepened b), deepened_count b)
 
-begun_count : (m : Meaning) (o : Operator) (e : Expr) → count (begun_by m o e) ≤ 2 + count e
+begun_count : (m : Meaning) (o : Operator) (e : Expr) → construct_count (begun_by m o e) ≤ 2 + construct_count e
 begun_count m operator.Slash e = omega (arith, joined_count m operator.Slash (root_of m) e, made_count m kind.Root form.Root [])
 begun_count m operator.DoubleSlash e = omega (arith, joined_count m operator.DoubleSlash (root_of m) e, made_count m kind.Root form.Root [])
 begun_count m (operator.Arith arith_op.Sub) e = omega (arith, made_one m kind.Unary (form.Unary true) e)
 begun_count m o e = omega (arith, made_one m kind.Unary (form.Unary false) e)
 
-cast_count : (m : Meaning) (k : Casting) (t : AtomType) (optional : Bool) (e : Expr) → count (cast_by m k t optional e) ≡ suc (count e)
+cast_count : (m : Meaning) (k : Casting) (t : AtomType) (optional : Bool) (e : Expr) → construct_count (cast_by m k t optional e) ≡ suc (construct_count e)
 cast_count m casting.Castable t optional e = made_one m kind.Castable (form.Castable t optional) e
 cast_count m casting.Cast t optional e = made_one m kind.Cast (form.Cast t optional) e
 
-bound_count : (m : Meaning) (k : Binder) (n : ℕ) (a e : Expr) → count (bound_by m k n a e) ≡ suc (count a + count e)
+bound_count : (m : Meaning) (k : Binder) (n : ℕ) (a e : Expr) → construct_count (bound_by m k n a e) ≡ suc (construct_count a + construct_count e)
 bound_count m binder.For n a e = made_two m kind.For (form.For n) a e
 bound_count m binder.Let n a e = made_two m kind.Let (form.Let n) a e
 bound_count m binder.Some n a e = made_two m kind.Some (form.Some n) a e
 bound_count m binder.Every n a e = made_two m kind.Every (form.Every n) a e
 
-filtered_count : (m : Meaning) (more : Bool) (b e : Expr) → count (filtered m more b e) ≤ suc (count b + count e)
+filtered_count : (m : Meaning) (more : Bool) (b e : Expr) → construct_count (filtered m more b e) ≤ suc (construct_count b + construct_count e)
 filtered_count m true b e = omega (arith, part_count b e)
 filtered_count m false b e = omega (arith, made_two m kind.Filter form.Filter b e)
 
-whole_count : (m : Meaning) (es : List Expr) → count (whole m es) ≤ suc (count_all es)
+whole_count : (m : Meaning) (es : List Expr) → construct_count (whole_expression m es) ≤ suc (count_all es)
 whole_count m [] = omega (arith, made_count m kind.Comma form.Comma [])
 whole_count m (e ∷ []) = omega arith
 whole_count m (e ∷ f ∷ es) = omega (arith, made_count m kind.Comma form.Comma (e ∷ f ∷ es))
@@ -118,11 +118,11 @@ length_one ns n = omega (arith, length-append ns (n ∷ []))
 length_two : (xs ys : List Node) (n : Node) → length (xs ++ ys ++ n ∷ []) ≡ suc (length xs + length ys)
 length_two xs ys n = omega (arith, length-append (xs ++ ys) (n ∷ []), length-append xs ys)
 
--- operands have fewer than twice as many constructs as nodes, one by one and as a whole
+-- operands have fewer than twice as many constructs as nodes, one by one and as a whole_expression
 abbrev Fewer : Meaning → List Expr → List Node → Type 0
-Fewer m es ns = (suc (count_all es) ≤ 2 * length ns) × (suc (count (whole m es)) ≤ 2 * length ns)
+Fewer m es ns = (suc (count_all es) ≤ 2 * length ns) × (suc (construct_count (whole_expression m es)) ≤ 2 * length ns)
 
-fewer_one : (m : Meaning) (e : Expr) (ns : List Node) → suc (count e) ≤ 2 * length ns → Fewer m (e ∷ []) ns
+fewer_one : (m : Meaning) (e : Expr) (ns : List Node) → suc (construct_count e) ≤ 2 * length ns → Fewer m (e ∷ []) ns
 fewer_one m e ns h = (omega (arith, h), h)
 
 fewer_leaf : (m : Meaning) (k : ConstructKind) (f : ExprForm) (n : Node) → Fewer m (made m k f [] ∷ []) (n ∷ [])
@@ -139,7 +139,7 @@ mutual
   fewer m empty = fewer_leaf m kind.Empty form.Empty node.Empty
   fewer m (parens e) =
       let h = fewer m e in
-      fewer_one m (whole m (operands m e)) (nodes e ++ node.Parens ∷ []) (omega (arith, h.1, length_one (nodes e) node.Parens))
+      fewer_one m (whole_expression m (operands m e)) (nodes e ++ node.Parens ∷ []) (omega (arith, h.1, length_one (nodes e) node.Parens))
   fewer m (call w p) = fewer_leaf m kind.Call (form.Call (called_function m p) any_type None) (node.Call p)
   fewer m (called w p e) =
       let h = fewer m e in
@@ -148,32 +148,32 @@ mutual
   fewer m (filter b e) =
       let h = fewer m b in
       let k = fewer m e in
-      fewer_one m (filtered m (takes_more b) (whole m (operands m b)) (whole m (operands m e))) (nodes b ++ nodes e ++ node.Filter (takes_more b) ∷ [])
-      (omega (arith, h.1, k.1, length_two (nodes b) (nodes e) (node.Filter (takes_more b)), filtered_count m (takes_more b) (whole m (operands m b)) (whole m (operands m e))))
+      fewer_one m (filtered m (takes_more b) (whole_expression m (operands m b)) (whole_expression m (operands m e))) (nodes b ++ nodes e ++ node.Filter (takes_more b) ∷ [])
+      (omega (arith, h.1, k.1, length_two (nodes b) (nodes e) (node.Filter (takes_more b)), filtered_count m (takes_more b) (whole_expression m (operands m b)) (whole_expression m (operands m e))))
   fewer m (comma a b) =
       let h = fewer m a in
       let k = fewer m b in
-      let l = all_append (operands m a) (whole m (operands m b) ∷ []) in
+      let l = all_append (operands m a) (whole_expression m (operands m b) ∷ []) in
       let n = length_two (nodes a) (nodes b) node.Comma in
-      (omega (arith, h.0, k.1, l, n), omega (arith, h.0, k.1, l, n, whole_count m (operands m a ++ whole m (operands m b) ∷ [])))
+      (omega (arith, h.0, k.1, l, n), omega (arith, h.0, k.1, l, n, whole_count m (operands m a ++ whole_expression m (operands m b) ∷ [])))
   fewer m (prefixed o e) =
       let h = fewer m e in
-      fewer_one m (begun_by m o (whole m (operands m e))) (nodes e ++ node.Prefix o ∷ [])
-      (omega (arith, h.1, length_one (nodes e) (node.Prefix o), begun_count m o (whole m (operands m e))))
+      fewer_one m (begun_by m o (whole_expression m (operands m e))) (nodes e ++ node.Prefix o ∷ [])
+      (omega (arith, h.1, length_one (nodes e) (node.Prefix o), begun_count m o (whole_expression m (operands m e))))
   fewer m (binary a l o b) =
       let h = fewer m a in
       let k = fewer m b in
-      fewer_one m (joined_by m o (whole m (operands m a)) (whole m (operands m b))) (nodes a ++ nodes b ++ node.Binary o ∷ [])
-      (omega (arith, h.1, k.1, length_two (nodes a) (nodes b) (node.Binary o), joined_count m o (whole m (operands m a)) (whole m (operands m b))))
+      fewer_one m (joined_by m o (whole_expression m (operands m a)) (whole_expression m (operands m b))) (nodes a ++ nodes b ++ node.Binary o ∷ [])
+      (omega (arith, h.1, k.1, length_two (nodes a) (nodes b) (node.Binary o), joined_count m o (whole_expression m (operands m a)) (whole_expression m (operands m b))))
   fewer m (cast e k p q w r optional) =
       let h = fewer m e in
-      fewer_one m (cast_by m k (type_at m r) optional (whole m (operands m e))) (nodes e ++ node.Cast k r optional ∷ [])
-      (omega (arith, h.1, length_one (nodes e) (node.Cast k r optional), cast_count m k (type_at m r) optional (whole m (operands m e))))
+      fewer_one m (cast_by m k (type_named_at m r) optional (whole_expression m (operands m e))) (nodes e ++ node.Cast k r optional ∷ [])
+      (omega (arith, h.1, length_one (nodes e) (node.Cast k r optional), cast_count m k (type_named_at m r) optional (whole_expression m (operands m e))))
   fewer m (choice p c q t r e) =
       let h = fewer m c in
       let k = fewer m t in
       let l = fewer m e in
-      fewer_one m (made m kind.If form.If (whole m (operands m c) ∷ whole m (operands m t) ∷ whole m (operands m e) ∷ [])) (nodes c ++ nodes t ++ nodes e ++ node.Choice ∷ [])
+      fewer_one m (made m kind.If form.If (whole_expression m (operands m c) ∷ whole_expression m (operands m t) ∷ whole_expression m (operands m e) ∷ [])) (nodes c ++ nodes t ++ nodes e ++ node.Choice ∷ [])
       (omega (
         arith,
         h.1,
@@ -181,29 +181,29 @@ mutual
         l.1,
         length_two (nodes c ++ nodes t) (nodes e) node.Choice,
         length-append (nodes c) (nodes t),
-        made_count m kind.If form.If (whole m (operands m c) ∷ whole m (operands m t) ∷ whole m (operands m e) ∷ []),
+        made_count m kind.If form.If (whole_expression m (operands m c) ∷ whole_expression m (operands m t) ∷ whole_expression m (operands m e) ∷ []),
       ))
   fewer m (bind bs l e) =
       let h = fewer m e in
-      fewer_one m (bound_in m bs (whole m (operands m e))) (value_nodes bs ++ nodes e ++ name_nodes bs)
-      (omega (arith, h.1, bound_fewer m bs (whole m (operands m e)), length-append (value_nodes bs ++ nodes e) (name_nodes bs), length-append (value_nodes bs) (nodes e)))
+      fewer_one m (bound_in m bs (whole_expression m (operands m e))) (value_nodes bs ++ nodes e ++ name_nodes bs)
+      (omega (arith, h.1, bound_fewer m bs (whole_expression m (operands m e)), length-append (value_nodes bs ++ nodes e) (name_nodes bs), length-append (value_nodes bs) (nodes e)))
 
-  bound_fewer : (m : Meaning) (bs : Bindings) (e : Expr) → count (bound_in m bs e) ≤ 2 * length (value_nodes bs) + count e
+  bound_fewer : (m : Meaning) (bs : Bindings) (e : Expr) → construct_count (bound_in m bs e) ≤ 2 * length (value_nodes bs) + construct_count e
   bound_fewer m (first k p w r l a) e =
       let h = fewer m a in
-      omega (arith, h.1, bound_count m k (number_at m r) (whole m (operands m a)) e)
+      omega (arith, h.1, bound_count m k (number_at m r) (whole_expression m (operands m a)) e)
   bound_fewer m (also bs w r l a) e =
       let h = fewer m a in
       omega (
         arith,
         h.1,
-        bound_count m (binder_of bs) (number_at m r) (whole m (operands m a)) e,
+        bound_count m (binder_of bs) (number_at m r) (whole_expression m (operands m a)) e,
         length-append (value_nodes bs) (nodes a),
-        bound_fewer m bs (bound_by m (binder_of bs) (number_at m r) (whole m (operands m a)) e),
+        bound_fewer m bs (bound_by m (binder_of bs) (number_at m r) (whole_expression m (operands m a)) e),
       )
 
 -- an expression has fewer than twice as many constructs as its derivation has nodes
-pub count_by_nodes : (m : Meaning) (t : Tree) → suc (count (says m t)) ≤ 2 * length (nodes t)
+pub count_by_nodes : (m : Meaning) (t : Tree) → suc (construct_count (says m t)) ≤ 2 * length (nodes t)
 count_by_nodes m t = (fewer m t).1
 
 -- ---- by the tokens
@@ -284,13 +284,13 @@ mutual
       )
 
 -- an expression has fewer than twice as many constructs as its derivation has tokens
-pub count_by_tokens : (m : Meaning) (t : Tree) → suc (count (says m t)) ≤ 2 * length (tokens t)
+pub count_by_tokens : (m : Meaning) (t : Tree) → suc (construct_count (says m t)) ≤ 2 * length (tokens t)
 count_by_tokens m t = omega (arith, count_by_nodes m t, nodes_by_tokens t)
 
 -- ---- patterns
 
 abbrev HasFewSteps : Expr → Type 0
-HasFewSteps e = step_count e ≤ count e
+HasFewSteps e = step_count e ≤ construct_count e
 
 few_in_all : (es : List ((e : Expr) × HasFewSteps e)) → counts true (map numbers_in (map (λ e. e.0) es)) ≤ counts false (map numbers_in (map (λ e. e.0) es))
 few_in_all [] = omega arith
@@ -303,7 +303,7 @@ few_by_flag false ps h = omega arith
 rolled_steps : (x : Expr-F Expr) → step_count (roll-Expr x) ≡ counts (is_path x.form) (map numbers_in x.parts)
 rolled_steps x = ap (λ (n : Bool → Numbers). (n true).count) (fold-roll-Expr (Bool → Numbers) numbers_with x)
 
-rolled_count : (x : Expr-F Expr) → count (roll-Expr x) ≡ suc (counts false (map numbers_in x.parts))
+rolled_count : (x : Expr-F Expr) → construct_count (roll-Expr x) ≡ suc (counts false (map numbers_in x.parts))
 rolled_count x = ap (λ (n : Bool → Numbers). (n false).count) (fold-roll-Expr (Bool → Numbers) numbers_with x)
 
 -- as a part of a pattern an expression has no more numbers
@@ -312,7 +312,7 @@ few_steps = ind-Expr HasFewSteps (λ x y is.
     let inner = subst (λ z. counts true (map numbers_in z.parts) ≤ counts false (map numbers_in z.parts)) is (few_in_all y.parts) in
     omega (arith, rolled_steps x, rolled_count x, few_by_flag (is_path x.form) (map numbers_in x.parts) inner))
 
-alternatives_count : (m : Meaning) (t : Tree) → counts true (map numbers_in (alternatives m t)) ≤ count (says m t)
+alternatives_count : (m : Meaning) (t : Tree) → counts true (map numbers_in (alternatives m t)) ≤ construct_count (says m t)
 alternatives_count m (binary a l operator.Union b) =
     omega (arith, alternatives_count m a, few_steps (says m b), counts_append true (alternatives m a) (says m b ∷ []), joined_count m operator.Union (says m a) (says m b))
 alternatives_count m t = omega (arith, few_steps (says m t))

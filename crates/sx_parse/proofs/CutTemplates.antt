@@ -4,14 +4,14 @@ use Rattle.std.proofs.lemmas.Str.{IsCharBoundary-start}
 use Rattle.std.specs.Str.{IsUtf8}
 use Rattle.sx_parse.specs.declared.faults.SyntaxFault.{SyntaxFault}
 use Rattle.sx_parse.specs.declared.templates.Next.TheVariants as next
-use Rattle.sx_parse.specs.Templates.{Piece, fixed, inner, all_written, doubled, written, ArePieces, Breaks, IsCut, IsUnclosed, IsUnopened, IsNext, StopsFixed}
+use Rattle.sx_parse.specs.Templates.{Piece, fixed, inner, all_written, doubled, piece_written, ArePieces, Breaks, IsCutInPieces, IsUnclosed, IsUnopened, IsNext, StopsFixed}
 use Rattle.sx_parse.specs.Turning.{IsCutTo, ends_fixed}
 use Rattle.sx_parse.proofs.OneTemplate.{apart}
 use Rattle.sx_parse.proofs.Pieces.{end_is, fixed_is, fixed_is_some, fixed_stops, inner_of, inner_is, inner_is_closed, inner_is_single}
 
-written_push : (ps : List Piece) (p : Piece) → all_written (ps ++ p ∷ []) ≡ all_written ps ++ written p
-written_push [] p = append-nil (written p)
-written_push (q ∷ qs) p = ap (λ (rest : List ℕ). written q ++ rest) (written_push qs p) ∙ sym (append_assoc (written q) (all_written qs) (written p))
+written_push : (ps : List Piece) (p : Piece) → all_written (ps ++ p ∷ []) ≡ all_written ps ++ piece_written p
+written_push [] p = append-nil (piece_written p)
+written_push (q ∷ qs) p = ap (λ (rest : List ℕ). piece_written q ++ rest) (written_push qs p) ∙ sym (append_assoc (piece_written q) (all_written qs) (piece_written p))
 
 pieces_push : (flag : Bool) (ps : List Piece) (p : Piece) → ArePieces flag ps → ArePieces (ends_fixed flag ps) (p ∷ []) → ArePieces flag (ps ++ p ∷ [])
 pieces_push flag [] p cut one = one
@@ -25,12 +25,12 @@ ends_inner flag (fixed u ∷ ps) t = ends_inner true ps t
 ends_inner flag (inner u ∷ ps) t = ends_inner false ps t
 
 -- one piece more
-pushed : (text : List ℕ) (ps : List Piece) (p : Piece) (offset end : ℕ) → IsCutTo text ps offset → drop offset text ≡ written p ++ drop end text →
+pushed : (text : List ℕ) (ps : List Piece) (p : Piece) (offset end : ℕ) → IsCutTo text ps offset → drop offset text ≡ piece_written p ++ drop end text →
     text ≡ all_written (ps ++ p ∷ []) ++ drop end text
 pushed text ps p offset end h is =
     h.written
     ∙ ap (λ (rest : List ℕ). all_written ps ++ rest) is
-    ∙ sym (append_assoc (all_written ps) (written p) (drop end text))
+    ∙ sym (append_assoc (all_written ps) (piece_written p) (drop end text))
     ∙ ap (λ (front : List ℕ). front ++ drop end text) (sym (written_push ps p))
 
 pub cut_begins : (text : List ℕ) → IsUtf8 text → IsCutTo text [] 0
@@ -62,7 +62,7 @@ cut_inner text ps offset start end h found = record {
 }
 
 -- where a template ends, its pieces are all
-pub cut_ends : (text : List ℕ) (ps : List Piece) (offset : ℕ) → IsCutTo text ps offset → IsNext text offset next.End → IsCut text ps []
+pub cut_ends : (text : List ℕ) (ps : List Piece) (offset : ℕ) → IsCutTo text ps offset → IsNext text offset next.End → IsCutInPieces text ps []
 cut_ends text ps offset h found = record {
   written = h.written ∙ ap (λ (rest : List ℕ). all_written ps ++ rest) (end_is text offset found);
   cut = h.cut;
@@ -70,14 +70,14 @@ cut_ends text ps offset h found = record {
 }
 
 -- where a brace is that nothing matches, no more are
-pub cut_breaks : (text : List ℕ) (ps : List Piece) (offset : ℕ) (fault : SyntaxFault) → IsCutTo text ps offset → IsNext text offset (next.Fault fault) → IsCut text ps (drop offset text)
+pub cut_breaks : (text : List ℕ) (ps : List Piece) (offset : ℕ) (fault : SyntaxFault) → IsCutTo text ps offset → IsNext text offset (next.Fault fault) → IsCutInPieces text ps (drop offset text)
 cut_breaks text ps offset fault h found = record { written = h.written; cut = h.cut; stops = at found }
   where
     at : Breaks offset (drop offset text) fault → (drop offset text ≡ []) ⊎ (IsUnclosed (drop offset text) ⊎ IsUnopened (drop offset text))
     at (inl (brace, is)) = inr (inl brace)
     at (inr (brace, is)) = inr (inr brace)
 
--- the offset counts what its pieces are written with
+-- the offset counts what its pieces are piece_written with
 pub cut_size : (text : List ℕ) (ps : List Piece) (offset : ℕ) → IsCutTo text ps offset → offset ≡ length (all_written ps)
 cut_size text ps offset h =
     omega (arith, ap length h.written, length-append (all_written ps) (drop offset text), length-drop offset text, h.boundary.0)

@@ -8,14 +8,14 @@ use Rattle.sx_names.specs.Scope.{ScopeBindings}
 use Rattle.sx_parse.specs.declared.faults.SyntaxFault.{SyntaxFault}
 use Rattle.sx_parse.specs.declared.lexemes.Lexeme.{Lexeme}
 use Rattle.sx_parse.specs.declared.roles.Role.{Role}
-use Rattle.sx_parse.specs.Answers.{breaks, end_of, fault_in, fault_or}
+use Rattle.sx_parse.specs.Answers.{breaks, end_offset, fault_in, fault_before}
 use Rattle.sx_parse.specs.Checks.{first_fault}
 use Rattle.sx_parse.specs.Grammar.{Tree, Derives, IsFault}
 use Rattle.sx_parse.specs.Laws.{IsAnswered}
 use Rattle.sx_parse.specs.Lexemes.{lexemes_of}
 use Rattle.sx_parse.specs.Lexing.{AreRead}
 use Rattle.sx_parse.specs.Machine.{start}
-use Rattle.sx_parse.specs.Reading.{Continues, IsStopped}
+use Rattle.sx_parse.specs.Reading.{HasContinuation, IsStopped}
 use Rattle.sx_parse.specs.Roles.{roles}
 use Rattle.sx_parse.specs.Standing.{state_roles}
 use Rattle.sx_parse.proofs.Exact.{found}
@@ -31,7 +31,7 @@ stops_so p ls k f =
     let s = some_state (start p) (take k ls) b.rest b.tree (found p (take k ls ++ b.rest) b.tree b.derives) in
     (state_roles s.0, stopped p ls k s.0 f.within s.1 f)
 
-whole_goes_on : (p : Bool) (ls : List Lexeme) (t : Tree) → Derives p ls t → Continues p (take (length ls) ls) t
+whole_goes_on : (p : Bool) (ls : List Lexeme) (t : Tree) → Derives p ls t → HasContinuation p (take (length ls) ls) t
 whole_goes_on p ls t d = record {
   rest = [];
   fits = d.fits;
@@ -43,7 +43,7 @@ module _ (p : Bool) (scope : ScopeBindings) (text : List ℕ) where
   -- the fault where reading stops at a token
   abbrev fault_there : List Token → Option ℕ → ℕ → Tree → SyntaxFault
   fault_there ts stop k t =
-      fault_or (first_fault p scope text ts (take k (roles 0 t)) ts) (fault_in p ts (lexemes_of text ts) (breaks stop) (end_of text stop) k)
+      fault_before (first_fault p scope text ts (take k (roles 0 t)) ts) (fault_in p ts (lexemes_of text ts) (breaks stop) (end_offset text stop) k)
 
   stopped_so : (ts : List Token) (stop : Option ℕ) (k : ℕ) (said : List Role) → AreRead text ts stop → IsStopped p (lexemes_of text ts) k said → IsAnswered p scope text
   stopped_so ts stop k said read s = inr (

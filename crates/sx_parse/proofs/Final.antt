@@ -7,7 +7,7 @@ use Rattle.sx_parse.specs.declared.lexemes.Lexeme.TheVariants as lexeme
 use Rattle.sx_parse.specs.declared.lexemes.Mark.TheVariants as mark
 use Rattle.sx_parse.specs.Grammar.{Tree, IsFault, binding_tokens}
 use Rattle.sx_parse.specs.Machine.{State, comma_bound, start, read, ended}
-use Rattle.sx_parse.specs.Reading.{turns, IsQuiet, ends_in_name, IsWhole, IsStopped}
+use Rattle.sx_parse.specs.Reading.{turns, SaysNothing, ends_in_name, IsWholeReading, IsStopped}
 use Rattle.sx_parse.specs.Roles.{roles}
 use Rattle.sx_parse.specs.Standing.{state_roles, state_nodes}
 use Rattle.sx_parse.proofs.Running.{bind, accept}
@@ -50,12 +50,12 @@ stays_quiet (lexeme.Mark mark.Colons) e = absurd cc
 stays_quiet (lexeme.Mark mark.Dollar) e = absurd cc
 stays_quiet l e = refl
 
-quiet_begins : (ls : List Lexeme) → begins_quiet ls ≡ true → IsQuiet ls
+quiet_begins : (ls : List Lexeme) → begins_quiet ls ≡ true → SaysNothing ls
 quiet_begins [] e = tt
 quiet_begins (l ∷ ls) e = stays_quiet l e
 
 -- where a name was read last, no token turns it
-quiet_behind : (s : State) (ts rest : List Lexeme) → tokens_of s ≡ ts → Quiet s rest → ends_in_name ts ≡ true → IsQuiet rest
+quiet_behind : (s : State) (ts rest : List Lexeme) → tokens_of s ≡ ts → Quiet s rest → ends_in_name ts ≡ true → SaysNothing rest
 quiet_behind (comma_bound bs s) ts rest e q n =
     let comma = lexeme.Mark mark.Comma in
     let f : ends_in_name ((stack_tokens s ++ binding_tokens bs) ++ comma ∷ []) ≡ false = last_of false (stack_tokens s ++ binding_tokens bs) comma refl in
@@ -69,7 +69,7 @@ roles_behind s rest t e q = kept s rest t e (quiet_begins rest q)
 
 -- ---- what was read
 
-pub whole_read : (p : Bool) (ts : List Lexeme) (s : State) (t : Tree) → Behind p ts s → ended s ≡ Some t → IsWhole p ts (state_nodes s ++ last_nodes s) (state_roles s)
+pub whole_read : (p : Bool) (ts : List Lexeme) (s : State) (t : Tree) → Behind p ts s → ended s ≡ Some t → IsWholeReading p ts (state_nodes s ++ last_nodes s) (state_roles s)
 whole_read p ts s t b e =
     let x = stands_whole p ts s (derived p) b t e in
     record { tree = t; derives = x.derives; nodes_are = x.nodes_are; roles_are = x.roles_are }

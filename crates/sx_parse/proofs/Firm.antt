@@ -16,7 +16,7 @@ use Rattle.sx_parse.specs.declared.lexemes.StepPrefix.TheVariants as prefix
 use Rattle.sx_parse.specs.declared.lexemes.Test.TheVariants as test
 use Rattle.sx_parse.specs.declared.roles.Role.{Role}
 use Rattle.sx_parse.specs.declared.roles.Role.TheVariants as role
-use Rattle.sx_parse.specs.Grammar.{level, left_level, casting_level, names_axis, takes_name, introduces, returns, begins_step, allows, Tree, literal, dot, parent, root, step, cast, Bindings}
+use Rattle.sx_parse.specs.Grammar.{level, left_level, casting_level, names_axis, takes_name, introduces, returns, begins_step, allows_lexeme, Tree, literal, dot, parent, root, step, cast, Bindings}
 use Rattle.sx_parse.specs.Machine.{Given, begun, behind, Stack, bottom, pending, more, signed, paren, arguments, predicate, condition, branch, binding, body, State, want, fresh, slash, named, dollar, axis, kind, kind_name, have, comma_bound, binder_dollar, binder_name, casting, casting_as, conditioned, in_pattern, floor, bound, given_binder, reaches, Reached, reach, when, begin_mark, begin, close_empty, begin_fresh, close_under, close_bracket, else_under, comma_under, return_under, operate_on, cast_on, question, follow_operator, follow_mark, follow_name, follow, open_kind, open_plain, open_name, name_axis, name_binder, follow_named, axis_test, in_kind, end_kind, variable_name, bound_dollar, bound_name, cast_as, cast_type, then_word, follow_slash, read}
 use Rattle.sx_parse.specs.Reading.{turns}
 use Rattle.sx_parse.specs.Roles.{operand_count, roles, binding_roles, bound_depth, prefix_roles, inner_role}
@@ -160,7 +160,7 @@ question_adds t s = tt
 follow_operator_adds : (t : Tree) (s : Stack) (l : Lexeme) (o : Operator) → Adds (stack_roles s ++ roles (depth s) t) (follow_operator t s l o)
 follow_operator_adds t s l o =
     let r = reach (left_level o) t s in
-    adds_if (allows (in_pattern s) l && reaches (in_pattern s) (left_level o) t) _ (operate_on l o r)
+    adds_if (allows_lexeme (in_pattern s) l && reaches (in_pattern s) (left_level o) t) _ (operate_on l o r)
     (adds_same (reached_roles r) _ (operate_on l o r) (reach_roles (left_level o) t s) (operate_adds l o r))
 
 follow_mark_adds : (t : Tree) (s : Stack) (m : Mark) → Adds (stack_roles s ++ roles (depth s) t) (follow_mark t s m)

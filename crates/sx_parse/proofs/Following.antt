@@ -18,7 +18,7 @@ use Rattle.sx_parse.specs.declared.frames.Frame.TheVariants as frame
 use Rattle.sx_parse.specs.declared.frames.Shape.TheVariants as shape
 use Rattle.sx_parse.specs.declared.frames.Mode.{Mode}
 use Rattle.sx_parse.specs.declared.frames.Mode.TheVariants as mode
-use Rattle.sx_parse.specs.Grammar.{level, left_level, casting_level, returns, allows, Tree, root, cast, first, also, binder_of}
+use Rattle.sx_parse.specs.Grammar.{level, left_level, casting_level, returns, allows_lexeme, Tree, root, cast, first, also, binder_of}
 use Rattle.sx_parse.specs.Nodes.{nodes, takes_more, value_nodes}
 use Rattle.sx_parse.specs.Roles.{roles, binding_roles, bound_depth, operand_count}
 use Rattle.sx_parse.specs.Standing.{depth, stack_roles, stack_nodes}
@@ -128,14 +128,14 @@ return_is t l s m = refl
 -- ---- a token behind an operand
 
 allowed_is : (t : Tree) (s : Stack) (l : Lexeme) (n : ℕ) →
-    allows (is_pattern s && nat_eq (depth s) 0) l && flat.reaches (is_pattern s && nat_eq (depth s) 0) n (shape_of t) ≡ allows (in_pattern s) l && reaches (in_pattern s) n t
+    allows_lexeme (is_pattern s && nat_eq (depth s) 0) l && flat.reaches (is_pattern s && nat_eq (depth s) 0) n (shape_of t) ≡ allows_lexeme (in_pattern s) l && reaches (in_pattern s) n t
 allowed_is t s l n =
-    ap (λ (b : Bool). allows b l && flat.reaches b n (shape_of t)) (in_pattern_is s) ∙ ap (λ (b : Bool). allows (in_pattern s) l && b) (shape_reaches (in_pattern s) n t)
+    ap (λ (b : Bool). allows_lexeme b l && flat.reaches b n (shape_of t)) (in_pattern_is s) ∙ ap (λ (b : Bool). allows_lexeme (in_pattern s) l && b) (shape_reaches (in_pattern s) n t)
 
 follow_operator_is : (t : Tree) (s : Stack) (m : Mode) (l : Lexeme) (o : Operator) → Small (length (read_roles t s)) →
     flat.follow_operator (holding t s m) (shape_of t) (operand_count t) l o ≡ told (read_roles t s) (follow_operator t s l o)
 follow_operator_is t s m l o h =
-    cond_is _ (allows (in_pattern s) l && reaches (in_pattern s) (left_level o) t) _ _ _ (allowed_is t s l (left_level o))
+    cond_is _ (allows_lexeme (in_pattern s) l && reaches (in_pattern s) (left_level o) t) _ _ _ (allowed_is t s l (left_level o))
     (after_reach (left_level o) t s m (λ (j : Joined). flat.operate j.flat o) (λ (r : Reached). operate_on l o r) h (λ r. operate_is l o r m))
 
 pub replaced_is : {A : Type 0} (xs : List A) (x y : A) → replaced (xs ++ x ∷ []) y ≡ xs ++ y ∷ []

@@ -35,18 +35,18 @@ use Rattle.sx_parse.specs.declared.lexemes.Lexeme.{Lexeme}
 use Rattle.sx_parse.specs.declared.nodes.Node.{Node}
 use Rattle.sx_parse.specs.declared.roles.Role.{Role}
 use Rattle.sx_parse.specs.declared.roles.Role.TheVariants as role
-use Rattle.sx_parse.specs.Answers.{IsRead, meaning}
-use Rattle.sx_parse.specs.Checks.{fails, fault_at, first_fault, function_of, role_fault, takes, takes_arguments, text_at}
+use Rattle.sx_parse.specs.Answers.{IsRead, meaning_in}
+use Rattle.sx_parse.specs.Checks.{fails, fault_at, first_fault, function_of, role_fault, accepts_count, takes_arguments, token_text}
 use Rattle.sx_parse.specs.Grammar.{Fits, Tree, literal, dot, parent, root, variable, step, empty, parens, call, called, filter, comma, prefixed, binary, cast, choice, bind, Bindings, first, also, binder_of}
 use Rattle.sx_parse.specs.Nodes.{takes_more}
-use Rattle.sx_parse.specs.Numbered.{Numbers, in_order, is_path, numbered, numbers_in, numbers_with, with_number}
-use Rattle.sx_parse.specs.Numbers.{Name, numbers_among}
-use Rattle.sx_parse.specs.Parsed.{AreFormedParts, AreParts, IsSaid}
+use Rattle.sx_parse.specs.Numbered.{Numbers, in_order, is_path, numbered, numbers_in, numbers_with, construct_with_number}
+use Rattle.sx_parse.specs.Numbers.{NameEntry, numbers_among}
+use Rattle.sx_parse.specs.Parsed.{AreFormedParts, AreTemplateParts, IsSaid}
 use Rattle.sx_parse.specs.Turning.{IsReadTo}
 use Rattle.sx_parse.specs.Understanding.{IsUnderstood}
 use Rattle.sx_parse.specs.Templates.{Piece, fixed, inner}
 use Rattle.sx_parse.specs.Roles.{binding_roles, bound_depth, operand_count, question_roles, roles}
-use Rattle.sx_parse.specs.Says.{or_true, Meaning, made, deepened, with_part, joined_by, begun_by, cast_by, bound_by, filtered, whole, operands, bound_in, says, number_at, type_at, root_of, call_of, called_function, any_type, literal_atom, step_axis, node_test_of, alternatives}
+use Rattle.sx_parse.specs.Says.{or_true, Meaning, made, deepened, with_part, joined_by, begun_by, cast_by, bound_by, filtered, whole_expression, operands, bound_in, says, number_at, type_named_at, root_of, call_of, called_function, any_type, literal_atom, step_axis, node_test_of, alternatives}
 use Rattle.sx_parse.proofs.Parallel.{parallel}
 use Rattle.sx_parse.proofs.Refusals.{as_many as as_many_lexemes}
 
@@ -72,7 +72,7 @@ form_filtered m true b e h =
     ∙ h refl
 form_filtered m false b e h = form_made m kind.Filter form.Filter (b ∷ e ∷ []) refl
 
--- what takes one more predicate is a step or a filter
+-- what accepts_count one more predicate is a step or a filter
 form_more : (m : Meaning) (t : Tree) → takes_more t ≡ true → has_predicates (out-Expr (says m t)).form ≡ true
 form_more m parent h = form_made m kind.Step (form.Step axis.Parent node_test.Node) [] refl
 form_more m (step pre t) h = form_made m kind.Step (form.Step (step_axis pre t) (node_test_of m t)) [] refl
@@ -99,33 +99,33 @@ operands_counted m (cast e k p q w r optional) = refl
 operands_counted m (choice p c q t r e) = refl
 operands_counted m (bind bs l e) = refl
 
-module _ (takes : Function → ℕ → Bool) where
+module _ (accepts_count : Function → ℕ → Bool) where
   abbrev is_formed : Expr → Bool
-  is_formed e = formed takes e
+  is_formed e = formed accepts_count e
 
-  made_formed : (m : Meaning) (k : ConstructKind) (f : ExprForm) (es : List Expr) → has_parts takes f (length es) ≡ true → AreFormed takes es → IsFormed takes (made m k f es)
+  made_formed : (m : Meaning) (k : ConstructKind) (f : ExprForm) (es : List Expr) → has_parts accepts_count f (length es) ≡ true → AreFormed accepts_count es → IsFormed accepts_count (made m k f es)
   made_formed m k f es n h =
-      formed_roll takes (record { construct = record { number = 0; line = m.line; kind = k }; deep = deep.No; form = f; parts = es })
-      ∙ both (has_parts takes f (length es)) (all_so (map is_formed es)) n h
+      formed_roll accepts_count (record { construct = record { number = 0; line = m.line; kind = k }; deep = deep.No; form = f; parts = es })
+      ∙ both (has_parts accepts_count f (length es)) (all_so (map is_formed es)) n h
 
-  one_formed : (e : Expr) → IsFormed takes e → AreFormed takes (e ∷ [])
+  one_formed : (e : Expr) → IsFormed accepts_count e → AreFormed accepts_count (e ∷ [])
   one_formed e h = both (is_formed e) true h refl
 
-  two_formed : (a b : Expr) → IsFormed takes a → IsFormed takes b → AreFormed takes (a ∷ b ∷ [])
+  two_formed : (a b : Expr) → IsFormed accepts_count a → IsFormed accepts_count b → AreFormed accepts_count (a ∷ b ∷ [])
   two_formed a b h k = both (is_formed a) (is_formed b && true) h (one_formed b k)
 
-  push_formed : (es : List Expr) (e : Expr) → AreFormed takes es → IsFormed takes e → AreFormed takes (es ++ e ∷ [])
+  push_formed : (es : List Expr) (e : Expr) → AreFormed accepts_count es → IsFormed accepts_count e → AreFormed accepts_count (es ++ e ∷ [])
   push_formed [] e h k = one_formed e k
   push_formed (x ∷ es) e h k =
-      both (is_formed x) (all_so (map is_formed (es ++ e ∷ []))) (formed_first takes x es h) (push_formed es e (formed_others takes x es h) k)
+      both (is_formed x) (all_so (map is_formed (es ++ e ∷ []))) (formed_first accepts_count x es h) (push_formed es e (formed_others accepts_count x es h) k)
 
-  deepened_formed : (e : Expr) → IsFormed takes e → IsFormed takes (deepened e)
+  deepened_formed : (e : Expr) → IsFormed accepts_count e → IsFormed accepts_count (deepened e)
   deepened_formed e h =
-      formed_roll takes (record { construct = (out-Expr e).construct; deep = deep.Written; form = (out-Expr e).form; parts = (out-Expr e).parts })
-      ∙ sym (formed_out takes e)
+      formed_roll accepts_count (record { construct = (out-Expr e).construct; deep = deep.Written; form = (out-Expr e).form; parts = (out-Expr e).parts })
+      ∙ sym (formed_out accepts_count e)
       ∙ h
 
-  joined_formed : (m : Meaning) (o : Operator) (a b : Expr) → IsFormed takes a → IsFormed takes b → IsFormed takes (joined_by m o a b)
+  joined_formed : (m : Meaning) (o : Operator) (a b : Expr) → IsFormed accepts_count a → IsFormed accepts_count b → IsFormed accepts_count (joined_by m o a b)
   joined_formed m operator.Or a b h k = made_formed m kind.Or form.Or (a ∷ b ∷ []) refl (two_formed a b h k)
   joined_formed m operator.And a b h k = made_formed m kind.And form.And (a ∷ b ∷ []) refl (two_formed a b h k)
   joined_formed m (operator.Compare op general) a b h k = made_formed m kind.Compare (form.Compare op general) (a ∷ b ∷ []) refl (two_formed a b h k)
@@ -138,57 +138,57 @@ module _ (takes : Function → ℕ → Bool) where
   joined_formed m operator.DoubleSlash a b h k =
       made_formed m kind.Path (form.Path false) (a ∷ deepened b ∷ []) refl (two_formed a (deepened b) h (deepened_formed b k))
 
-  root_formed : (m : Meaning) → IsFormed takes (root_of m)
+  root_formed : (m : Meaning) → IsFormed accepts_count (root_of m)
   root_formed m = made_formed m kind.Root form.Root [] refl refl
 
-  begun_formed : (m : Meaning) (o : Operator) (e : Expr) → IsFormed takes e → IsFormed takes (begun_by m o e)
+  begun_formed : (m : Meaning) (o : Operator) (e : Expr) → IsFormed accepts_count e → IsFormed accepts_count (begun_by m o e)
   begun_formed m operator.Slash e h = joined_formed m operator.Slash (root_of m) e (root_formed m) h
   begun_formed m operator.DoubleSlash e h = joined_formed m operator.DoubleSlash (root_of m) e (root_formed m) h
   begun_formed m (operator.Arith arith_op.Sub) e h = made_formed m kind.Unary (form.Unary true) (e ∷ []) refl (one_formed e h)
   begun_formed m o e h = made_formed m kind.Unary (form.Unary false) (e ∷ []) refl (one_formed e h)
 
-  cast_formed : (m : Meaning) (k : Casting) (t : AtomType) (optional : Bool) (e : Expr) → IsFormed takes e → IsFormed takes (cast_by m k t optional e)
+  cast_formed : (m : Meaning) (k : Casting) (t : AtomType) (optional : Bool) (e : Expr) → IsFormed accepts_count e → IsFormed accepts_count (cast_by m k t optional e)
   cast_formed m casting.Castable t optional e h = made_formed m kind.Castable (form.Castable t optional) (e ∷ []) refl (one_formed e h)
   cast_formed m casting.Cast t optional e h = made_formed m kind.Cast (form.Cast t optional) (e ∷ []) refl (one_formed e h)
 
-  bound_formed : (m : Meaning) (k : Binder) (n : ℕ) (a e : Expr) → IsFormed takes a → IsFormed takes e → IsFormed takes (bound_by m k n a e)
+  bound_formed : (m : Meaning) (k : Binder) (n : ℕ) (a e : Expr) → IsFormed accepts_count a → IsFormed accepts_count e → IsFormed accepts_count (bound_by m k n a e)
   bound_formed m binder.For n a e h k = made_formed m kind.For (form.For n) (a ∷ e ∷ []) refl (two_formed a e h k)
   bound_formed m binder.Let n a e h k = made_formed m kind.Let (form.Let n) (a ∷ e ∷ []) refl (two_formed a e h k)
   bound_formed m binder.Some n a e h k = made_formed m kind.Some (form.Some n) (a ∷ e ∷ []) refl (two_formed a e h k)
   bound_formed m binder.Every n a e h k = made_formed m kind.Every (form.Every n) (a ∷ e ∷ []) refl (two_formed a e h k)
 
   -- operands that commas join
-  whole_formed : (m : Meaning) (es : List Expr) → 1 ≤ length es → AreFormed takes es → IsFormed takes (whole m es)
+  whole_formed : (m : Meaning) (es : List Expr) → 1 ≤ length es → AreFormed accepts_count es → IsFormed accepts_count (whole_expression m es)
   whole_formed m [] n h = absurd (omega (arith, n))
-  whole_formed m (e ∷ []) n h = formed_first takes e [] h
+  whole_formed m (e ∷ []) n h = formed_first accepts_count e [] h
   whole_formed m (e ∷ f ∷ es) n h = made_formed m kind.Comma form.Comma (e ∷ f ∷ es) (grind (arith, nat_tests)) h
 
-  takes_another : (f : ExprForm) (n : ℕ) → has_predicates f ≡ true → has_parts takes f n ≡ true → has_parts takes f (n + 1) ≡ true
+  takes_another : (f : ExprForm) (n : ℕ) → has_predicates f ≡ true → has_parts accepts_count f n ≡ true → has_parts accepts_count f (n + 1) ≡ true
   takes_another (form.Step a t) n p h = refl
   takes_another form.Filter n p h = grind (arith, nat_tests)
   takes_another f n p h = absurd (false≢true p)
 
-  part_formed : (e p : Expr) → has_predicates (out-Expr e).form ≡ true → IsFormed takes e → IsFormed takes p → IsFormed takes (with_part e p)
+  part_formed : (e p : Expr) → has_predicates (out-Expr e).form ≡ true → IsFormed accepts_count e → IsFormed accepts_count p → IsFormed accepts_count (with_part e p)
   part_formed e p more h k =
       let f = (out-Expr e).form in
       let es = (out-Expr e).parts in
-      let many = takes_another f (length es) more (formed_count takes e h) in
-      formed_roll takes (record { construct = (out-Expr e).construct; deep = (out-Expr e).deep; form = f; parts = es ++ p ∷ [] })
-      ∙ both (has_parts takes f (length (es ++ p ∷ []))) (all_so (map is_formed (es ++ p ∷ [])))
-      (ap (has_parts takes f) (length-append es (p ∷ [])) ∙ many)
-      (push_formed es p (formed_parts takes e h) k)
+      let many = takes_another f (length es) more (formed_count accepts_count e h) in
+      formed_roll accepts_count (record { construct = (out-Expr e).construct; deep = (out-Expr e).deep; form = f; parts = es ++ p ∷ [] })
+      ∙ both (has_parts accepts_count f (length (es ++ p ∷ []))) (all_so (map is_formed (es ++ p ∷ [])))
+      (ap (has_parts accepts_count f) (length-append es (p ∷ [])) ∙ many)
+      (push_formed es p (formed_parts accepts_count e h) k)
 
-  filtered_formed : (m : Meaning) (more : Bool) (b e : Expr) → (more ≡ true → has_predicates (out-Expr b).form ≡ true) → IsFormed takes b → IsFormed takes e →
-      IsFormed takes (filtered m more b e)
+  filtered_formed : (m : Meaning) (more : Bool) (b e : Expr) → (more ≡ true → has_predicates (out-Expr b).form ≡ true) → IsFormed accepts_count b → IsFormed accepts_count e →
+      IsFormed accepts_count (filtered m more b e)
   filtered_formed m true b e h p q = part_formed b e (h refl) p q
   filtered_formed m false b e h p q = made_formed m kind.Filter form.Filter (b ∷ e ∷ []) refl (two_formed b e p q)
 
   -- ---- derivations
 
   module _ (m : Meaning) where
-    -- a token with this role ends a call with no other number of arguments than the function takes
+    -- a token with this role ends a call with no other number of arguments than the function accepts_count
     abbrev pub RolePasses : Role → Type 0
-    RolePasses (role.Closes place n) = takes (called_function m place) n ≡ true
+    RolePasses (role.Closes place n) = accepts_count (called_function m place) n ≡ true
     RolePasses r = Unit {0}
 
     abbrev pub RolesPass : List Role → Type 0
@@ -203,24 +203,24 @@ module _ (takes : Function → ℕ → Bool) where
     back [] ss h = h
     back (r ∷ rs) ss h = back rs ss h.1
 
-    -- there is one operand, or more, and each is formed, and so are they as a whole
+    -- there is one operand, or more, and each is formed, and so are they as a whole_expression
     record AreOperands (es : List Expr) : Type 0 where
-      pub each : AreFormed takes es
-      pub said : IsFormed takes (whole m es)
+      pub each : AreFormed accepts_count es
+      pub said : IsFormed accepts_count (whole_expression m es)
 
-    one : (e : Expr) → IsFormed takes e → AreOperands (e ∷ [])
+    one : (e : Expr) → IsFormed accepts_count e → AreOperands (e ∷ [])
     one e h = record { each = one_formed e h; said = h }
 
-    leaf : (k : ConstructKind) (f : ExprForm) → has_parts takes f 0 ≡ true → AreOperands (made m k f [] ∷ [])
+    leaf : (k : ConstructKind) (f : ExprForm) → has_parts accepts_count f 0 ≡ true → AreOperands (made m k f [] ∷ [])
     leaf k f h = one (made m k f []) (made_formed m k f [] h refl)
 
-    one_more : (es : List Expr) (e : Expr) → AreOperands es → IsFormed takes e → AreOperands (es ++ e ∷ [])
+    one_more : (es : List Expr) (e : Expr) → AreOperands es → IsFormed accepts_count e → AreOperands (es ++ e ∷ [])
     one_more es e all h =
-        let each : AreFormed takes (es ++ e ∷ []) = push_formed es e all.each h in
+        let each : AreFormed accepts_count (es ++ e ∷ []) = push_formed es e all.each h in
         record { each = each; said = whole_formed m (es ++ e ∷ []) (omega (arith, length-append es (e ∷ []))) each }
 
-    called_formed : (p n : ℕ) (es : List Expr) → length es ≡ n → takes (called_function m p) n ≡ true → AreFormed takes es → IsFormed takes (call_of m p es)
-    called_formed p n es h k all = made_formed m kind.Call (form.Call (called_function m p) any_type None) es (ap (takes (called_function m p)) h ∙ k) all
+    called_formed : (p n : ℕ) (es : List Expr) → length es ≡ n → accepts_count (called_function m p) n ≡ true → AreFormed accepts_count es → IsFormed accepts_count (call_of m p es)
+    called_formed p n es h k all = made_formed m kind.Call (form.Call (called_function m p) any_type None) es (ap (accepts_count (called_function m p)) h ∙ k) all
 
     mutual
       operands_formed : (t : Tree) (n : ℕ) → RolesPass (roles n t) → AreOperands (operands m t)
@@ -256,7 +256,7 @@ module _ (takes : Function → ℕ → Bool) where
           (joined_formed m o (says m a) (says m b) (operands_formed a n (front (roles n a) (role.Plain ∷ roles n b) h)).said (operands_formed b n last.1).said)
       operands_formed (cast e k p q w r optional) n h =
           let rest = role.Plain ∷ role.Plain ∷ role.Type ∷ question_roles optional in
-          one (cast_by m k (type_at m r) optional (says m e)) (cast_formed m k (type_at m r) optional (says m e) (operands_formed e n (front (roles n e) rest h)).said)
+          one (cast_by m k (type_named_at m r) optional (says m e)) (cast_formed m k (type_named_at m r) optional (says m e) (operands_formed e n (front (roles n e) rest h)).said)
       operands_formed (choice p c q t r e) n h =
           let last = role.Plain ∷ roles (suc n) e in
           let mid = role.Plain ∷ role.Plain ∷ roles (suc n) t in
@@ -274,7 +274,7 @@ module _ (takes : Function → ℕ → Bool) where
           let inner = back (binding_roles n bs) last h in
           one (bound_in m bs (says m e)) (bound_in_formed bs n (says m e) (front (binding_roles n bs) last h) (operands_formed e (bound_depth n bs) inner.1).said)
 
-      bound_in_formed : (bs : Bindings) (n : ℕ) (e : Expr) → RolesPass (binding_roles n bs) → IsFormed takes e → IsFormed takes (bound_in m bs e)
+      bound_in_formed : (bs : Bindings) (n : ℕ) (e : Expr) → RolesPass (binding_roles n bs) → IsFormed accepts_count e → IsFormed accepts_count (bound_in m bs e)
       bound_in_formed (first k p w r l a) n e h f = bound_formed m k (number_at m r) (says m a) e (operands_formed a (suc n) h.1.1.1.1).said f
       bound_in_formed (also bs w r l a) n e h f =
           let last = role.Plain ∷ role.Opens (suc (bound_depth n bs)) ∷ role.Name ∷ role.Plain ∷ roles (suc (bound_depth n bs)) a in
@@ -283,11 +283,11 @@ module _ (takes : Function → ℕ → Bool) where
           (bound_formed m (binder_of bs) (number_at m r) (says m a) e (operands_formed a (suc (bound_depth n bs)) value.1.1.1.1).said f)
 
     -- what a derivation says is formed
-    pub says_formed : (t : Tree) → RolesPass (roles 0 t) → IsFormed takes (says m t)
+    pub says_formed : (t : Tree) → RolesPass (roles 0 t) → IsFormed accepts_count (says m t)
     says_formed t h = (operands_formed t 0 h).said
 
     -- so are the alternatives of a pattern
-    pub alternatives_formed : (t : Tree) → RolesPass (roles 0 t) → AreFormed takes (alternatives m t)
+    pub alternatives_formed : (t : Tree) → RolesPass (roles 0 t) → AreFormed accepts_count (alternatives m t)
     alternatives_formed (binary a l operator.Union b) h =
         let last = back (roles 0 a) (role.Plain ∷ roles 0 b) h in
         push_formed (alternatives m a) (says m b) (alternatives_formed a (front (roles 0 a) (role.Plain ∷ roles 0 b) h)) (says_formed b last.1)
@@ -317,30 +317,30 @@ module _ (takes : Function → ℕ → Bool) where
   one_kept x all false n =
       let es = in_order false (suc n) (map numbers_in x.parts) in
       ap (λ (k : Bool → Numbers). is_formed ((k false).from n)) (fold-roll-Expr (Bool → Numbers) numbers_with x)
-      ∙ formed_roll takes (record { construct = with_number n x.construct; deep = x.deep; form = x.form; parts = es })
-      ∙ ap (λ (k : ℕ). has_parts takes x.form k && all_so (map is_formed es)) (as_many false (suc n) x.parts)
-      ∙ ap (λ (b : Bool). has_parts takes x.form (length x.parts) && b) (all false (suc n))
-      ∙ sym (formed_roll takes x)
+      ∙ formed_roll accepts_count (record { construct = construct_with_number n x.construct; deep = x.deep; form = x.form; parts = es })
+      ∙ ap (λ (k : ℕ). has_parts accepts_count x.form k && all_so (map is_formed es)) (as_many false (suc n) x.parts)
+      ∙ ap (λ (b : Bool). has_parts accepts_count x.form (length x.parts) && b) (all false (suc n))
+      ∙ sym (formed_roll accepts_count x)
   one_kept x all true n =
       let es = in_order (is_path x.form) n (map numbers_in x.parts) in
       ap (λ (k : Bool → Numbers). is_formed ((k true).from n)) (fold-roll-Expr (Bool → Numbers) numbers_with x)
-      ∙ formed_roll takes (record { construct = x.construct; deep = x.deep; form = x.form; parts = es })
-      ∙ ap (λ (k : ℕ). has_parts takes x.form k && all_so (map is_formed es)) (as_many (is_path x.form) n x.parts)
-      ∙ ap (λ (b : Bool). has_parts takes x.form (length x.parts) && b) (all (is_path x.form) n)
-      ∙ sym (formed_roll takes x)
+      ∙ formed_roll accepts_count (record { construct = x.construct; deep = x.deep; form = x.form; parts = es })
+      ∙ ap (λ (k : ℕ). has_parts accepts_count x.form k && all_so (map is_formed es)) (as_many (is_path x.form) n x.parts)
+      ∙ ap (λ (b : Bool). has_parts accepts_count x.form (length x.parts) && b) (all (is_path x.form) n)
+      ∙ sym (formed_roll accepts_count x)
 
   pub numbers_keep : (e : Expr) (outside : Bool) (n : ℕ) → is_formed ((numbers_in e outside).from n) ≡ is_formed e
   numbers_keep = ind-Expr KeepsForm (λ x y is.
       one_kept x (λ outside n.
       subst (λ z. all_so (map is_formed (in_order outside n (map numbers_in z.parts))) ≡ all_so (map is_formed z.parts)) is (all_kept outside n y.parts)))
 
-  pub in_order_formed : (outside : Bool) (n : ℕ) (es : List Expr) → AreFormed takes es → AreFormed takes (in_order outside n (map numbers_in es))
+  pub in_order_formed : (outside : Bool) (n : ℕ) (es : List Expr) → AreFormed accepts_count es → AreFormed accepts_count (in_order outside n (map numbers_in es))
   in_order_formed outside n [] h = refl
   in_order_formed outside n (e ∷ es) h =
       let next : ℕ = n + (numbers_in e outside).count in
       both (is_formed ((numbers_in e outside).from n)) (all_so (map is_formed (in_order outside next (map numbers_in es))))
-      (numbers_keep e outside n ∙ formed_first takes e es h)
-      (in_order_formed outside next es (formed_others takes e es h))
+      (numbers_keep e outside n ∙ formed_first accepts_count e es h)
+      (in_order_formed outside next es (formed_others accepts_count e es h))
 
 -- ---- what is read
 
@@ -355,12 +355,12 @@ module _ (p : Bool) (scope : ScopeBindings) (text : List ℕ) (ts : List Token) 
   fits_by true h = refl
   fits_by false h = absurd (none-some code.Xpst0017 (sym h))
 
-  fits_if : (o : Option Function) (n : ℕ) → fails code.Xpst0017 (not (takes o n)) ≡ None → takes_arguments (or_true o) n ≡ true
+  fits_if : (o : Option Function) (n : ℕ) → fails code.Xpst0017 (not (accepts_count o n)) ≡ None → takes_arguments (or_true o) n ≡ true
   fits_if None n h = absurd (none-some code.Xpst0017 (sym h))
-  fits_if (Some f) n h = fits_by (takes (Some f) n) h
+  fits_if (Some f) n h = fits_by (accepts_count (Some f) n) h
 
   role_passes : (r : Role) (token : Token) → role_fault p scope text ts r token ≡ None → RolePasses takes_arguments here r
-  role_passes (role.Closes place n) token h = fits_if (function_of scope (text_at text ts place)) n h
+  role_passes (role.Closes place n) token h = fits_if (function_of scope (token_text text ts place)) n h
   role_passes r token h = tt
 
   no_fault : (o : Option Code) (others : Option SyntaxFault) (start : ℕ) → fault_at start o others ≡ None → (o ≡ None) × (others ≡ None)
@@ -387,7 +387,7 @@ module _ (p : Bool) (scope : ScopeBindings) (text : List ℕ) (ts : List Token) 
 
 -- ---- what is answered
 
-module _ (scope : ScopeBindings) (text : List ℕ) (old new : List Name) where
+module _ (scope : ScopeBindings) (text : List ℕ) (old new : List NameEntry) where
   pub said_formed : (line n m : ℕ) (e : Expr) → IsSaid scope text line old n new m e → IsFormed takes_arguments e
   said_formed line n m e x =
       let ws = numbers_among new scope text (roles 0 x.tree) x.tokens in
@@ -396,28 +396,28 @@ module _ (scope : ScopeBindings) (text : List ℕ) (old new : List Name) where
       ∙ read_formed false scope text x.tokens ws line x.tree x.is
 
 module _ (scope : ScopeBindings) (text : List ℕ) (ts : List Token) (given : List Node) (said : List Role) where
-  pub understood_formed : (u : IsUnderstood false scope text ts given said) (names : List Name) (line n : ℕ) (said_so e : Expr) →
-      said_so ≡ says (meaning scope text ts u.tree names line) u.tree → e ≡ numbered n said_so → IsFormed takes_arguments e
+  pub understood_formed : (u : IsUnderstood false scope text ts given said) (names : List NameEntry) (line n : ℕ) (said_so e : Expr) →
+      said_so ≡ says (meaning_in scope text ts u.tree names line) u.tree → e ≡ numbered n said_so → IsFormed takes_arguments e
   understood_formed u names line n said_so e is numbers =
       ap (formed takes_arguments) numbers
       ∙ numbers_keep takes_arguments said_so false n
       ∙ ap (formed takes_arguments) is
       ∙ read_formed false scope text ts (numbers_among names scope text (roles 0 u.tree) ts) line u.tree u.is
 
-  pub understood_pattern_formed : (u : IsUnderstood true scope text ts given said) (names : List Name) (line n : ℕ) (said_so : Expr) (es numbered_ones : List Expr) →
-      said_so ≡ says (meaning scope text ts u.tree names line) u.tree →
+  pub understood_pattern_formed : (u : IsUnderstood true scope text ts given said) (names : List NameEntry) (line n : ℕ) (said_so : Expr) (es numbered_ones : List Expr) →
+      said_so ≡ says (meaning_in scope text ts u.tree names line) u.tree →
       ((m : Meaning) (k : ℕ) (t : Tree) → Fits true k t → said_so ≡ says m t → es ≡ alternatives m t) →
       numbered_ones ≡ in_order true n (map numbers_in es) → AreFormed takes_arguments numbered_ones
   understood_pattern_formed u names line n said_so es numbered_ones is are numbers =
-      let m = meaning scope text ts u.tree names line in
+      let m = meaning_in scope text ts u.tree names line in
       let these : es ≡ alternatives m u.tree = are m 0 u.tree u.is.derives.fits is in
       ap (λ (xs : List Expr). all_so (map (formed takes_arguments) xs)) numbers
       ∙ in_order_formed takes_arguments true n es
       (ap (λ (xs : List Expr). all_so (map (formed takes_arguments) xs)) these
       ∙ read_alternatives_formed true scope text ts (numbers_among names scope text (roles 0 u.tree) ts) line u.tree u.is)
 
-parts_formed : (scope : ScopeBindings) (line : ℕ) (pieces : List Piece) (old : List Name) (n : ℕ) (parts : List AvtPart) (new : List Name) (m : ℕ) →
-    AreParts scope line pieces old n parts new m → AreFormedParts parts
+parts_formed : (scope : ScopeBindings) (line : ℕ) (pieces : List Piece) (old : List NameEntry) (n : ℕ) (parts : List AvtPart) (new : List NameEntry) (m : ℕ) →
+    AreTemplateParts scope line pieces old n parts new m → AreFormedParts parts
 parts_formed scope line [] old n parts new m h = rw h.0 tt
 parts_formed scope line (fixed text ∷ pieces) old n [] new m h = tt
 parts_formed scope line (fixed text ∷ pieces) old n (part ∷ parts) new m h =
@@ -428,6 +428,6 @@ parts_formed scope line (inner text ∷ pieces) old n (part ∷ parts) new m h =
     (said_formed scope text old h.1 line n h.2 h.0 h.4, parts_formed scope line pieces h.1 h.2 parts new m h.5)
 
 -- so are those of a template that is read up to an offset
-pub all_formed : (scope : ScopeBindings) (text : List ℕ) (line : ℕ) (old : List Name) (n offset : ℕ) (parts : List AvtPart) (new : List Name) (m : ℕ) →
+pub all_formed : (scope : ScopeBindings) (text : List ℕ) (line : ℕ) (old : List NameEntry) (n offset : ℕ) (parts : List AvtPart) (new : List NameEntry) (m : ℕ) →
     IsReadTo scope text line old n offset parts new m → AreFormedParts parts
 all_formed scope text line old n offset parts new m h = parts_formed scope line h.pieces old n parts new m h.parts_are

@@ -2,7 +2,7 @@
 use Rattle.std.proofs.Common.{◌≡◌, ℕ, suc, ◌+◌, Bool, true, false, List, [], ◌∷◌, ◌++◌, Option, Some, refl, ap, sym, ◌∙◌, subst, arith}
 use Rattle.std.specs.List.{slice_get}
 use Rattle.std.specs.Option.{option_map_or}
-use Rattle.sx_lex.specs.Tokens.{is_name, is_wild, is_integer, is_decimal, is_literal, is_mark, first_kind, kind_of}
+use Rattle.sx_lex.specs.Tokens.{is_name, is_wild, is_integer, is_decimal_literal, is_literal, is_mark, first_kind, kind_of}
 use Rattle.sx_lex.specs.declared.kinds.Token.{Token}
 use Rattle.sx_lex.specs.declared.kinds.TokenKind.{TokenKind}
 use Rattle.sx_lex.specs.declared.kinds.TokenKind.TheVariants as token_kind
@@ -14,7 +14,7 @@ use Rattle.sx_parse.specs.declared.nodes.Node.{Node}
 use Rattle.sx_parse.specs.declared.nodes.Node.TheVariants as node
 use Rattle.sx_parse.specs.Built.{IsLiteralAt, IsLiteralIn, AreLiteralsIn}
 use Rattle.sx_parse.specs.Grammar.{Tree, literal, dot, parent, root, variable, step, empty, parens, call, called, filter, comma, prefixed, binary, cast, choice, bind, Bindings, first, also, tokens, binding_tokens, question_tokens}
-use Rattle.sx_parse.specs.Lexemes.{text_of, lexeme_of, lexemes_from, lexemes_of}
+use Rattle.sx_parse.specs.Lexemes.{text_of_token, lexeme_of, lexemes_from, lexemes_of}
 use Rattle.sx_parse.specs.Lexing.{AreParts}
 use Rattle.sx_parse.specs.Literals.{IsLiteral}
 use Rattle.sx_parse.specs.Nodes.{takes_more, nodes, value_nodes, name_nodes}
@@ -125,7 +125,7 @@ first_literal false false false false false false h = cc
 
 quoted : (s : List ℕ) → kind_of s ≡ Some token_kind.Str → is_literal s ≡ true
 unfolding kind_of
-quoted s h = first_literal (is_name s) (is_wild s) (is_integer s) (is_decimal s) (is_literal s) (is_mark s) h
+quoted s h = first_literal (is_name s) (is_wild s) (is_integer s) (is_decimal_literal s) (is_literal s) (is_mark s) h
 
 literal_here : (m : Meaning) (place : ℕ) (k : TokenKind) (s : List ℕ) → (IsLiteral k s → IsLiteralAt m place) → kind_of s ≡ Some k → IsLiteralOf m (lexeme_of k s place)
 literal_here m place token_kind.Name s f h = tt
@@ -135,9 +135,9 @@ literal_here m place token_kind.Decimal s f h = f tt
 literal_here m place token_kind.Str s f h = f (quoted s h)
 literal_here m place token_kind.Mark s f h = tt
 
-literal_at : (m : Meaning) (place : ℕ) (t : Token) → slice_get m.tokens place ≡ Some t → IsLiteral t.kind (text_of m.text t) → IsLiteralAt m place
+literal_at : (m : Meaning) (place : ℕ) (t : Token) → slice_get m.tokens place ≡ Some t → IsLiteral t.kind (text_of_token m.text t) → IsLiteralAt m place
 literal_at m place t e h =
-    let P : Option Token → Type 0 = λ o. IsLiteral (token_kind_in o) (option_map_or (text_of m.text) o []) in
+    let P : Option Token → Type 0 = λ o. IsLiteral (token_kind_in o) (option_map_or (text_of_token m.text) o []) in
     subst P (sym e) h
 
 tokens_from : (m : Meaning) (place : ℕ) (ts : List Token) → AreParts m.text ts → ((j : ℕ) → slice_get m.tokens (j + place) ≡ slice_get ts j) →
@@ -145,7 +145,7 @@ tokens_from : (m : Meaning) (place : ℕ) (ts : List Token) → AreParts m.text 
 tokens_from m place [] parts same = tt
 tokens_from m place (t ∷ ts) parts same =
     let here : slice_get m.tokens place ≡ Some t = ap (slice_get m.tokens) (let e : place ≡ 0 + place = omega arith in e) ∙ same 0 in (
-      literal_here m place t.kind (text_of m.text t) (literal_at m place t here) parts.0.kind,
+      literal_here m place t.kind (text_of_token m.text t) (literal_at m place t here) parts.0.kind,
       tokens_from m (suc place) ts parts.1 (λ (j : ℕ). ap (slice_get m.tokens) (let e : j + suc place ≡ suc j + place = omega arith in e) ∙ same (suc j)),
     )
 

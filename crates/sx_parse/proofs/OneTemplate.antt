@@ -2,11 +2,11 @@
 use Rattle.std.proofs.Common.{◌≡◌, ℕ, ◌⊎◌, inl, inr, Bool, true, false, ◌&&◌, ◌==◌, cond, List, [], ◌∷◌, ◌++◌, refl, ap, sym, subst, ◌∙◌, arith, append_assoc, eq-eqb, get_or}
 use Rattle.std.proofs.lemmas.Bool.Decides.{nat_tests}
 use Rattle.sx_parse.specs.declared.faults.SyntaxFault.{SyntaxFault}
-use Rattle.sx_parse.specs.Templates.{Piece, fixed, inner, all_written, begins_with, closes_in, doubled, ends, is_brace, is_closed, quote_behind, written, ArePieces, Breaks, Ends, IsCut, IsUnclosed, IsUnopened, StopsFixed}
+use Rattle.sx_parse.specs.Templates.{Piece, fixed, inner, all_written, begins_with, closes_in, doubled, ends, is_brace, is_closed, quote_behind, piece_written, ArePieces, Breaks, EndsText, IsCutInPieces, IsUnclosed, IsUnopened, StopsFixed}
 use Rattle.sx_parse.proofs.Braces.{closed_step, closes_step}
 
 abbrev Stops : List ℕ → Type 0
-Stops rest = Ends rest ⊎ (IsUnclosed rest ⊎ IsUnopened rest)
+Stops rest = EndsText rest ⊎ (IsUnclosed rest ⊎ IsUnopened rest)
 
 -- ---- fixed text
 
@@ -90,11 +90,11 @@ closed_closes : (q : ℕ) (t x : List ℕ) → is_closed q t ≡ true → closes
 closed_closes q [] x closed = ap (λ (n : ℕ). closes_in n (125 ∷ x)) (no_literal q closed)
 closed_closes q (c ∷ cs) x closed = closes_step q c (cs ++ 125 ∷ x) (not_end q c cs closed) ∙ closed_closes (quote_behind q c) cs x (closed_on q c cs closed)
 
-inner_first : (t x : List ℕ) → written (inner t) ++ x ≡ 123 ∷ (t ++ 125 ∷ x)
+inner_first : (t x : List ℕ) → piece_written (inner t) ++ x ≡ 123 ∷ (t ++ 125 ∷ x)
 inner_first t x = ap (λ (zs : List ℕ). 123 ∷ zs) (append_assoc t (125 ∷ []) x)
 
 -- no fixed text stands where the text of an expression does
-inner_stops : (t x : List ℕ) → begins_with 123 t ≡ false → StopsFixed (written (inner t) ++ x)
+inner_stops : (t x : List ℕ) → begins_with 123 t ≡ false → StopsFixed (piece_written (inner t) ++ x)
 inner_stops [] x single = (refl, refl)
 inner_stops (c ∷ cs) x single = (refl, single)
 
@@ -110,7 +110,7 @@ pieces_stop [] rest cut stops = stops_fixed rest stops
 pieces_stop (fixed [] ∷ ps) rest cut stops = absurd cut
 pieces_stop (fixed (c ∷ cs) ∷ ps) rest cut stops = let never = cut.0 in cc
 pieces_stop (inner t ∷ ps) rest cut stops =
-    subst StopsFixed (sym (append_assoc (written (inner t)) (all_written ps) rest)) (inner_stops t (all_written ps ++ rest) cut.0)
+    subst StopsFixed (sym (append_assoc (piece_written (inner t)) (all_written ps) rest)) (inner_stops t (all_written ps ++ rest) cut.0)
 
 other_brace : (xs ys : List ℕ) → 123 ∷ xs ≡ 125 ∷ ys → ⊥
 other_brace xs ys e =
@@ -134,9 +134,9 @@ no_piece b (fixed []) ps x rest cut stops e = cut
 no_piece b (fixed (c ∷ cs)) ps x rest cut stops e =
     apart c cs (all_written ps ++ x) (subst StopsFixed (e ∙ append_assoc (doubled (c ∷ cs)) (all_written ps) x) (stops_fixed rest stops))
 no_piece b (inner t) ps x rest cut stops e =
-    no_inner t (all_written ps ++ x) rest cut.1 stops (e ∙ append_assoc (written (inner t)) (all_written ps) x ∙ inner_first t (all_written ps ++ x))
+    no_inner t (all_written ps ++ x) rest cut.1 stops (e ∙ append_assoc (piece_written (inner t)) (all_written ps) x ∙ inner_first t (all_written ps ++ x))
 
-no_fixed : (c : ℕ) (cs x t y : List ℕ) → begins_with 123 t ≡ false → doubled (c ∷ cs) ++ x ≡ written (inner t) ++ y → ⊥
+no_fixed : (c : ℕ) (cs x t y : List ℕ) → begins_with 123 t ≡ false → doubled (c ∷ cs) ++ x ≡ piece_written (inner t) ++ y → ⊥
 no_fixed c cs x t y single e = apart c cs x (subst StopsFixed (sym e) (inner_stops t y single))
 
 pieces_once : (b : Bool) (ps qs : List Piece) (x y : List ℕ) → ArePieces b ps → ArePieces b qs → Stops x → Stops y →
@@ -153,24 +153,24 @@ pieces_once b (fixed (c ∷ cs) ∷ ps) (fixed (d ∷ ds) ∷ qs) x y cut_p cut_
     (ap (λ (t : List ℕ). fixed t ∷ ps) both.0 ∙ ap (λ (zs : List Piece). fixed (d ∷ ds) ∷ zs) rest.0, rest.1)
 pieces_once b (fixed (c ∷ cs) ∷ ps) (inner u ∷ qs) x y cut_p cut_q stops_x stops_y e =
     absurd (no_fixed c cs (all_written ps ++ x) u (all_written qs ++ y) cut_q.0
-    (sym (append_assoc (doubled (c ∷ cs)) (all_written ps) x) ∙ e ∙ append_assoc (written (inner u)) (all_written qs) y))
+    (sym (append_assoc (doubled (c ∷ cs)) (all_written ps) x) ∙ e ∙ append_assoc (piece_written (inner u)) (all_written qs) y))
 pieces_once b (inner t ∷ ps) (fixed [] ∷ qs) x y cut_p cut_q stops_x stops_y e = absurd cut_q
 pieces_once b (inner t ∷ ps) (fixed (d ∷ ds) ∷ qs) x y cut_p cut_q stops_x stops_y e =
     absurd (no_fixed d ds (all_written qs ++ y) t (all_written ps ++ x) cut_p.0
-    (sym (append_assoc (doubled (d ∷ ds)) (all_written qs) y) ∙ sym e ∙ append_assoc (written (inner t)) (all_written ps) x))
+    (sym (append_assoc (doubled (d ∷ ds)) (all_written qs) y) ∙ sym e ∙ append_assoc (piece_written (inner t)) (all_written ps) x))
 pieces_once b (inner t ∷ ps) (inner u ∷ qs) x y cut_p cut_q stops_x stops_y e =
     let whole : 123 ∷ (t ++ 125 ∷ (all_written ps ++ x)) ≡ 123 ∷ (u ++ 125 ∷ (all_written qs ++ y)) =
-    sym (append_assoc (written (inner t)) (all_written ps) x ∙ inner_first t (all_written ps ++ x)) ∙ e ∙ append_assoc (written (inner u)) (all_written qs) y ∙ inner_first u (all_written qs ++ y) in
+    sym (append_assoc (piece_written (inner t)) (all_written ps) x ∙ inner_first t (all_written ps ++ x)) ∙ e ∙ append_assoc (piece_written (inner u)) (all_written qs) y ∙ inner_first u (all_written qs ++ y) in
     let both = closed_once 0 t u (all_written ps ++ x) (all_written qs ++ y) cut_p.1 cut_q.1 (cc) in
     let rest = pieces_once false ps qs x y cut_p.2 cut_q.2 stops_x stops_y both.1 in
     (ap (λ (t : List ℕ). inner t ∷ ps) both.0 ∙ ap (λ (zs : List Piece). inner u ∷ zs) rest.0, rest.1)
 
-pub one_cut : (text rest more : List ℕ) (ps qs : List Piece) → IsCut text ps rest → IsCut text qs more → (ps ≡ qs) × (rest ≡ more)
+pub one_cut : (text rest more : List ℕ) (ps qs : List Piece) → IsCutInPieces text ps rest → IsCutInPieces text qs more → (ps ≡ qs) × (rest ≡ more)
 one_cut text rest more ps qs a b = pieces_once false ps qs rest more a.cut b.cut a.stops b.stops (sym a.written ∙ b.written)
 
 -- ---- faults
 
-pub ends_or_breaks : (offset : ℕ) (rest : List ℕ) (fault : SyntaxFault) → Ends rest → Breaks offset rest fault → ⊥
+pub ends_or_breaks : (offset : ℕ) (rest : List ℕ) (fault : SyntaxFault) → EndsText rest → Breaks offset rest fault → ⊥
 ends_or_breaks offset rest fault none (inl (brace, is)) = let begins = brace.begins in cc
 ends_or_breaks offset rest fault none (inr (brace, is)) = let begins = brace.begins in cc
 

@@ -12,13 +12,13 @@ use Rattle.sx_parse.specs.declared.faults.SyntaxFault.{SyntaxFault}
 use Rattle.sx_parse.specs.declared.lexemes.Lexeme.{Lexeme}
 use Rattle.sx_parse.specs.declared.lexemes.Lexeme.TheVariants as lexeme
 use Rattle.sx_parse.specs.declared.roles.Role.{Role}
-use Rattle.sx_parse.specs.Answers.{IsRead, IsRefused, IsUnsound, IsUnread, StopsAt, fault_in, fault_or, breaks, end_of}
+use Rattle.sx_parse.specs.Answers.{IsRead, IsRefused, IsUnsound, IsUnread, StopsAt, fault_in, fault_before, breaks, end_offset}
 use Rattle.sx_parse.specs.Checks.{first_fault}
 use Rattle.sx_parse.specs.Grammar.{Tree, Derives, Begins, IsFault, prefix_tokens}
 use Rattle.sx_parse.specs.Lexemes.{lexemes_of}
 use Rattle.sx_parse.specs.Lexing.{AreRead}
 use Rattle.sx_parse.specs.Machine.{State, named, start, read}
-use Rattle.sx_parse.specs.Reading.{Continues, IsQuiet, ends_in_name}
+use Rattle.sx_parse.specs.Reading.{HasContinuation, SaysNothing, ends_in_name}
 use Rattle.sx_parse.specs.Roles.{roles}
 use Rattle.sx_parse.specs.Standing.{state_roles}
 use Rattle.sx_parse.proofs.Running.{bind, accept}
@@ -41,7 +41,7 @@ some_state s [] rest t e = (s, refl)
 some_state s (l ∷ ls) rest t e = step_reached (read s l) ls rest t (λ next f. some_state next ls rest t f) e
 
 -- where the last token is a name and none turns it, and where it is none
-stands_behind : (s : State) (front rest : List Lexeme) (t : Tree) → tokens_of s ≡ front → (ends_in_name front ≡ true → IsQuiet rest) → accept s rest ≡ Some t →
+stands_behind : (s : State) (front rest : List Lexeme) (t : Tree) → tokens_of s ≡ front → (ends_in_name front ≡ true → SaysNothing rest) → accept s rest ≡ Some t →
     Leads (state_roles s) (roles 0 t)
 stands_behind (named pre w k s) front rest t e q a =
     let name = lexeme.Name w k in
@@ -50,17 +50,17 @@ stands_behind (named pre w k s) front rest t e q a =
     kept (named pre w k s) rest t a (q g)
 stands_behind s front rest t e q a = held s rest t a
 
-continued : (p : Bool) (front : List Lexeme) (t : Tree) (c : Continues p front t) → accept (start p) (front ++ c.rest) ≡ Some t
+continued : (p : Bool) (front : List Lexeme) (t : Tree) (c : HasContinuation p front t) → accept (start p) (front ++ c.rest) ≡ Some t
 continued p front t c = found p (front ++ c.rest) t (record { fits = c.fits; tokens_are = c.tokens_are })
 
-roles_in_front : (p : Bool) (front : List Lexeme) (n : ℕ) (s : State) (t : Tree) → n ≡ length front → Behind p front s → Continues p front t →
+roles_in_front : (p : Bool) (front : List Lexeme) (n : ℕ) (s : State) (t : Tree) → n ≡ length front → Behind p front s → HasContinuation p front t →
     state_roles s ≡ take n (roles 0 t)
 roles_in_front p front n s t h b c =
     let x = reached front (start p) s tt b in
     let e : accept s c.rest ≡ Some t = sym (goes_on (start p) front c.rest s b) ∙ continued p front t c in
     front_taken n (state_roles s) (roles 0 t) (h ∙ sym (behind_counts p front s b)) (stands_behind s front c.rest t x.tokens_are c.quiet e)
 
-same_roles : (p : Bool) (front : List Lexeme) (n : ℕ) (t u : Tree) → n ≡ length front → Continues p front t → Continues p front u →
+same_roles : (p : Bool) (front : List Lexeme) (n : ℕ) (t u : Tree) → n ≡ length front → HasContinuation p front t → HasContinuation p front u →
     take n (roles 0 t) ≡ take n (roles 0 u)
 same_roles p front n t u h a b =
     let s = some_state (start p) front a.rest t (continued p front t a) in
@@ -68,7 +68,7 @@ same_roles p front n t u h a b =
 
 -- ---- where reading stops
 
-continued_begins : (p : Bool) (ts : List Lexeme) (t : Tree) → Continues p ts t → Begins p ts
+continued_begins : (p : Bool) (ts : List Lexeme) (t : Tree) → HasContinuation p ts t → Begins p ts
 continued_begins p ts t c = record { rest = c.rest; tree = t; derives = record { fits = c.fits; tokens_are = c.tokens_are } }
 
 stops_within : (p : Bool) (ls : List Lexeme) (stop : Option ℕ) (k : ℕ) → StopsAt p ls stop k → k ≤ length ls
@@ -77,11 +77,11 @@ stops_within p ls (Some offset) k (inl f) = f.0.within
 stops_within p ls (Some offset) k (inr e) = omega (arith, e)
 
 -- a fault stands behind no tokens that begin a readable list
-fault_or_end : (p : Bool) (ls : List Lexeme) (j k : ℕ) (t : Tree) → IsFault p ls j → j < length ls → k ≡ length ls → Continues p (take k ls) t → ⊥
+fault_or_end : (p : Bool) (ls : List Lexeme) (j k : ℕ) (t : Tree) → IsFault p ls j → j < length ls → k ≡ length ls → HasContinuation p (take k ls) t → ⊥
 fault_or_end p ls j k t f less end c = none_longer p ls j k f (omega (arith, less, end)) (omega (arith, end)) (continued_begins p (take k ls) t c)
 
-one_stop : (p : Bool) (ls : List Lexeme) (stop : Option ℕ) (j k : ℕ) (t u : Tree) → StopsAt p ls stop j → Continues p (take j ls) t → StopsAt p ls stop k →
-    Continues p (take k ls) u → j ≡ k
+one_stop : (p : Bool) (ls : List Lexeme) (stop : Option ℕ) (j k : ℕ) (t u : Tree) → StopsAt p ls stop j → HasContinuation p (take j ls) t → StopsAt p ls stop k →
+    HasContinuation p (take k ls) u → j ≡ k
 one_stop p ls None j k t u f a g b = one_fault p ls j k f g
 one_stop p ls (Some offset) j k t u (inl f) a (inl g) b = one_fault p ls j k f.0 g.0
 one_stop p ls (Some offset) j k t u (inl f) a (inr g) b = absurd (fault_or_end p ls j k u f.0 f.1 g b)
@@ -134,7 +134,7 @@ module _ (p : Bool) (scope : ScopeBindings) (text : List ℕ) where
   unsound_or_unread f g a b = derived_or_stopped a.tokens b.tokens a.tree b.stop b.count a.lexes a.derives b.lexes b.stops
 
   abbrev unread_fault : List Token → Option ℕ → ℕ → List Role → SyntaxFault
-  unread_fault ts stop k rs = fault_or (first_fault p scope text ts rs ts) (fault_in p ts (lexemes_of text ts) (breaks stop) (end_of text stop) k)
+  unread_fault ts stop k rs = fault_before (first_fault p scope text ts rs ts) (fault_in p ts (lexemes_of text ts) (breaks stop) (end_offset text stop) k)
 
   one_unread : (f g : SyntaxFault) → IsUtf8 text → IsUnread p scope text f → IsUnread p scope text g → f ≡ g
   one_unread f g h a b =
@@ -143,9 +143,9 @@ module _ (p : Bool) (scope : ScopeBindings) (text : List ℕ) where
       let lexemes : lexemes_of text b.tokens ≡ ls = ap (λ (ts : List Token). lexemes_of text ts) (sym same.1) in
       let stops : StopsAt p ls a.stop b.count =
       subst (λ (o : Option ℕ). StopsAt p ls o b.count) (sym same.0) (subst (λ (xs : List Lexeme). StopsAt p xs b.stop b.count) lexemes b.stops) in
-      let continues : Continues p (take b.count ls) b.tree = subst (λ (xs : List Lexeme). Continues p (take b.count xs) b.tree) lexemes b.continues in
+      let continues : HasContinuation p (take b.count ls) b.tree = subst (λ (xs : List Lexeme). HasContinuation p (take b.count xs) b.tree) lexemes b.continues in
       let count : a.count ≡ b.count = one_stop p ls a.stop a.count b.count a.tree b.tree a.stops a.continues stops continues in
-      let there : Continues p (take a.count ls) b.tree = subst (λ (k : ℕ). Continues p (take k ls) b.tree) (sym count) continues in
+      let there : HasContinuation p (take a.count ls) b.tree = subst (λ (k : ℕ). HasContinuation p (take k ls) b.tree) (sym count) continues in
       let many : a.count ≡ length (take a.count ls) = sym (length-take-le a.count ls (stops_within p ls a.stop a.count a.stops)) in
       let said = same_roles p (take a.count ls) a.count a.tree b.tree many a.continues there in
       a.first

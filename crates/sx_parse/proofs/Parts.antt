@@ -9,7 +9,7 @@ use Rattle.sx_lex.specs.Tokens.{AreTokens, kind_of, white_len}
 use Rattle.sx_lex.specs.declared.kinds.Token.{Token}
 use Rattle.sx_lex.proofs.Breaks.{cut_of_front, front_tokens, front_cut}
 use Rattle.sx_lex.proofs.Unique.{are_spans, are_cuts}
-use Rattle.sx_parse.specs.Lexemes.{text_of, lexeme_of, lexemes_from}
+use Rattle.sx_parse.specs.Lexemes.{text_of_token, lexeme_of, lexemes_from}
 use Rattle.sx_parse.specs.Lexing.{AreRead, IsPart, AreParts}
 use Rattle.sx_parse.specs.declared.lexemes.Lexeme.{Lexeme}
 
@@ -56,7 +56,7 @@ part_of_front text offset t cut part =
     let within = part.ends.0 in
     let ends = cut_of_front text offset t.end cut part.ends in
     let most : t.end ≤ offset = omega (arith, length-take offset text) in
-    let same : text_of (take offset text) t ≡ text_of text t =
+    let same : text_of_token (take offset text) t ≡ text_of_token text t =
     ap (λ (n : ℕ). take (t.end - t.start) (drop t.start (take n text))) (let e : offset ≡ t.start + (offset - t.start) = omega arith in e)
     ∙ ap (take (t.end - t.start)) (drop-take t.start (offset - t.start) text)
     ∙ take-take (t.end - t.start) (offset - t.start) (drop t.start text) (omega arith) in record {
@@ -82,11 +82,11 @@ few_of_read text ts (Some offset) utf8 read = omega (arith, few_tokens (take off
 
 -- the lexemes from a token on
 pub lexemes_step : (text : List ℕ) (ts : List Token) (k : ℕ) (d : Token) → k < length ts
-    → lexemes_from k text (drop k ts) ≡ lexeme_of (get_or ts k d).kind (text_of text (get_or ts k d)) k ∷ lexemes_from (suc k) text (drop (suc k) ts)
+    → lexemes_from k text (drop k ts) ≡ lexeme_of (get_or ts k d).kind (text_of_token text (get_or ts k d)) k ∷ lexemes_from (suc k) text (drop (suc k) ts)
 lexemes_step text ts k d within = ap (lexemes_from k text) (drop-cons ts k d within)
 
 pub lexemes_more : (out new all : List Lexeme) (text spelled : List ℕ) (ts : List Token) (k : ℕ) (d : Token) (l : Lexeme) → k < length ts
-    → out ++ lexemes_from k text (drop k ts) ≡ all → spelled ≡ text_of text (get_or ts k d) → l ≡ lexeme_of (get_or ts k d).kind spelled k → new ≡ out ++ l ∷ []
+    → out ++ lexemes_from k text (drop k ts) ≡ all → spelled ≡ text_of_token text (get_or ts k d) → l ≡ lexeme_of (get_or ts k d).kind spelled k → new ≡ out ++ l ∷ []
     → new ++ lexemes_from (k + 1) text (drop (k + 1) ts) ≡ all
 lexemes_more out new all text spelled ts k d l within so_far part is pushed =
     let rest = lexemes_from (suc k) text (drop (suc k) ts) in

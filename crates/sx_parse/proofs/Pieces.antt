@@ -1,7 +1,7 @@
 -- From one piece of a value template to the text behind it.
 use Rattle.std.proofs.Common.{◌≡◌, ℕ, zero, suc, ◌-◌, ◌<◌, ◌≤◌, true, false, List, [], ◌∷◌, ◌++◌, length, take, drop, get_or, refl, ap, sym, subst, ◌∙◌, arith, append_assoc, take-append-drop, length-drop, get_or-drop, length-take-le, drop-cons}
 use Rattle.std.proofs.lemmas.List.{drop-drop, drop_all}
-use Rattle.sx_parse.specs.Templates.{fixed, inner, begins_with, doubled, is_closed, written, Ends, IsNext, StopsFixed}
+use Rattle.sx_parse.specs.Templates.{fixed, inner, begins_with, doubled, is_closed, piece_written, EndsText, IsNext, StopsFixed}
 use Rattle.sx_parse.specs.declared.templates.Next.TheVariants as next
 
 -- a front of what is left, and what is left behind it
@@ -12,7 +12,7 @@ behind text offset end order =
 
 -- fixed text is what stands there
 pub fixed_is : (text : List ℕ) (offset : ℕ) (fixed_text : List ℕ) (end : ℕ) → IsNext text offset (next.Fixed fixed_text end) →
-    drop offset text ≡ written (fixed fixed_text) ++ drop end text
+    drop offset text ≡ piece_written (fixed fixed_text) ++ drop end text
 fixed_is text offset fixed_text end h =
     sym (behind text offset end (let b = h.begins in omega arith)) ∙ ap (λ (front : List ℕ). front ++ drop end text) h.front.written
 
@@ -35,7 +35,7 @@ inner_of text start end = take (end - start) (drop start text)
 
 -- with its braces it is what stands there
 pub inner_is : (text : List ℕ) (offset start end : ℕ) → IsNext text offset (next.Inner start end) →
-    drop offset text ≡ written (inner (inner_of text start end)) ++ drop (suc end) text
+    drop offset text ≡ piece_written (inner (inner_of text start end)) ++ drop (suc end) text
 inner_is text offset start end h =
     let order = h.order in
     let begins = h.begins in
@@ -61,5 +61,5 @@ pub inner_is_single : (text : List ℕ) (offset start end : ℕ) → IsNext text
 inner_is_single text offset start end h = begins_front (end - start) (drop start text) h.single
 
 -- nothing is left
-pub end_is : (text : List ℕ) (offset : ℕ) → IsNext text offset next.End → Ends (drop offset text)
+pub end_is : (text : List ℕ) (offset : ℕ) → IsNext text offset next.End → EndsText (drop offset text)
 end_is text offset h = drop_all offset text h

@@ -5,7 +5,7 @@ use Rattle.std.proofs.lemmas.Bool.Decides.{nat_tests}
 use Rattle.std.proofs.lemmas.Str.{IsUtf8-drop, IsCharBoundary-after_ascii}
 use Rattle.std.specs.Str.{IsUtf8}
 use Rattle.sx_lex.specs.Tokens.{closes, is_quote, is_literal}
-use Rattle.sx_parse.specs.Checks.{unquoted, content}
+use Rattle.sx_parse.specs.Checks.{unquoted, literal_content}
 
 -- no byte of a text is this quote
 abbrev pub IsFree : ℕ → List ℕ → Type 0
@@ -99,7 +99,7 @@ pub record HasQuotes (text : List ℕ) : Type 0 where
   pub some : 0 < length text
   pub ascii : get_or text 0 0 < 128
   pub closed : closes (get_or text 0 0) (drop 1 text) ≡ true
-  pub is : content text ≡ unquoted (get_or text 0 0) (drop 1 text)
+  pub is : literal_content text ≡ unquoted (get_or text 0 0) (drop 1 text)
 
 pub has_quotes : (text : List ℕ) → is_literal text ≡ true → HasQuotes text
 has_quotes [] literal = absurd (false≢true literal)

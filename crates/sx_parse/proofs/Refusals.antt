@@ -8,12 +8,12 @@ use Rattle.sx_parse.specs.declared.faults.SyntaxFault.{SyntaxFault}
 use Rattle.sx_parse.specs.declared.lexemes.Lexeme.{Lexeme}
 use Rattle.sx_parse.specs.declared.nodes.Node.{Node}
 use Rattle.sx_parse.specs.declared.roles.Role.{Role}
-use Rattle.sx_parse.specs.Answers.{IsRefused, IsUnsound, IsUnread, StopsAt, fault_in, fault_or, breaks, end_of}
+use Rattle.sx_parse.specs.Answers.{IsRefused, IsUnsound, IsUnread, StopsAt, fault_in, fault_before, breaks, end_offset}
 use Rattle.sx_parse.specs.Checks.{first_fault}
 use Rattle.sx_parse.specs.Grammar.{IsFault}
 use Rattle.sx_parse.specs.Lexemes.{lexemes_of, lexemes_from}
 use Rattle.sx_parse.specs.Lexing.{IsLexed}
-use Rattle.sx_parse.specs.Reading.{IsReadAs, IsWhole, IsStopped}
+use Rattle.sx_parse.specs.Reading.{IsReadAs, IsWholeReading, IsStopped}
 use Rattle.sx_parse.specs.Roles.{roles}
 use Rattle.sx_parse.specs.Understanding.{IsUnderstood, stop_of}
 use Rattle.sx_parse.proofs.Parallel.{parallel}
@@ -34,7 +34,7 @@ few_lexemes text ts ls stop h = let few = h.few in omega (arith, few, counted te
 
 -- the fault of a text whose reading stops at a token
 abbrev pub stopped_fault : Bool → List ℕ → List Token → Option ℕ → ℕ → SyntaxFault
-stopped_fault p text ts stop k = fault_in p ts (lexemes_of text ts) (breaks stop) (end_of text stop) k
+stopped_fault p text ts stop k = fault_in p ts (lexemes_of text ts) (breaks stop) (end_offset text stop) k
 
 before_or_at : (b : Bool) (p : Bool) (ls : List Lexeme) (k : ℕ) → nat_lt k (length ls) ≡ b → IsFault p ls k → (IsFault p ls k × (k < length ls)) ⊎ (k ≡ length ls)
 before_or_at true p ls k e f = inl (f, grind (arith, nat_tests))
@@ -49,7 +49,7 @@ stops_before p ls (Some offset) k f = before_or_at (nat_lt k (length ls)) p ls k
 
 -- no reading goes on at a token
 pub unread : (p : Bool) (scope : ScopeBindings) (text : List ℕ) (ts : List Token) (ls : List Lexeme) (stop : Option ℕ) (k : ℕ) (said : List Role) (fault : SyntaxFault) →
-    IsLexed text ts ls stop → IsStopped p ls k said → fault ≡ fault_or (first_fault p scope text ts said ts) (stopped_fault p text ts stop k) → IsUnread p scope text fault
+    IsLexed text ts ls stop → IsStopped p ls k said → fault ≡ fault_before (first_fault p scope text ts said ts) (stopped_fault p text ts stop k) → IsUnread p scope text fault
 unread p scope text ts ls stop k said fault h r e = record {
   tokens = ts;
   stop = stop;
@@ -58,12 +58,12 @@ unread p scope text ts ls stop k said fault h r e = record {
   stops = rw (sym h.lexemes) (stops_before p ls stop k r.fault);
   tree = r.tree;
   continues = rw (sym h.lexemes) r.continues;
-  first = e ∙ ap (λ (rs : List Role). fault_or (first_fault p scope text ts rs ts) (stopped_fault p text ts stop k)) r.roles_are;
+  first = e ∙ ap (λ (rs : List Role). fault_before (first_fault p scope text ts rs ts) (stopped_fault p text ts stop k)) r.roles_are;
 }
 
 -- the text breaks behind its last token
 pub broken : (p : Bool) (scope : ScopeBindings) (text : List ℕ) (ts : List Token) (ls : List Lexeme) (offset : ℕ) (given : List Node) (said : List Role) (fault : SyntaxFault) →
-    IsLexed text ts ls (Some offset) → IsWhole p ls given said → fault ≡ fault_or (first_fault p scope text ts said ts) (stopped_fault p text ts (Some offset) (length ts)) →
+    IsLexed text ts ls (Some offset) → IsWholeReading p ls given said → fault ≡ fault_before (first_fault p scope text ts said ts) (stopped_fault p text ts (Some offset) (length ts)) →
     IsUnread p scope text fault
 broken p scope text ts ls offset given said fault h r e =
     let same : length ls ≡ length ts = counted text ts ls (Some offset) h in
@@ -81,12 +81,12 @@ broken p scope text ts ls offset given said fault h r e =
         tokens_are = r.derives.tokens_are ∙ sym (append-nil _ ∙ take_all (length ts) ls (omega (arith, same)));
         quiet = λ _. tt;
       });
-      first = e ∙ ap (λ (rs : List Role). fault_or (first_fault p scope text ts rs ts) (stopped_fault p text ts (Some offset) (length ts)))
+      first = e ∙ ap (λ (rs : List Role). fault_before (first_fault p scope text ts rs ts) (stopped_fault p text ts (Some offset) (length ts)))
           (r.roles_are ∙ sym (take_all (length ts) (roles 0 r.tree) (omega (arith, many))));
     }
 
 pub unsound : (p : Bool) (scope : ScopeBindings) (text : List ℕ) (ts : List Token) (ls : List Lexeme) (given : List Node) (said : List Role) (fault : SyntaxFault) →
-    IsLexed text ts ls None → IsWhole p ls given said → first_fault p scope text ts said ts ≡ Some fault → IsUnsound p scope text fault
+    IsLexed text ts ls None → IsWholeReading p ls given said → first_fault p scope text ts said ts ≡ Some fault → IsUnsound p scope text fault
 unsound p scope text ts ls given said fault h r e = record {
   tokens = ts;
   tree = r.tree;
@@ -96,7 +96,7 @@ unsound p scope text ts ls given said fault h r e = record {
 }
 
 pub sound_text : (p : Bool) (scope : ScopeBindings) (text : List ℕ) (ts : List Token) (ls : List Lexeme) (given : List Node) (said : List Role) →
-    IsLexed text ts ls None → IsWhole p ls given said → first_fault p scope text ts said ts ≡ None → IsUnderstood p scope text ts given said
+    IsLexed text ts ls None → IsWholeReading p ls given said → first_fault p scope text ts said ts ≡ None → IsUnderstood p scope text ts given said
 sound_text p scope text ts ls given said h r e = record {
   tree = r.tree;
   is = record {
@@ -116,9 +116,9 @@ pub refused_first : (p : Bool) (scope : ScopeBindings) (text : List ℕ) (ts : L
     (stop stopped : Option ℕ) → IsLexed text ts ls stop → IsReadAs p ls given said stopped → first_fault p scope text ts said ts ≡ Some fault → IsRefused p scope text fault
 refused_first p scope text ts ls given said fault None None h r e = inl (unsound p scope text ts ls given said fault h r e)
 refused_first p scope text ts ls given said fault (Some offset) None h r e =
-    inr (broken p scope text ts ls offset given said fault h r (ap (λ (o : Option SyntaxFault). fault_or o (stopped_fault p text ts (Some offset) (length ts))) (sym e)))
+    inr (broken p scope text ts ls offset given said fault h r (ap (λ (o : Option SyntaxFault). fault_before o (stopped_fault p text ts (Some offset) (length ts))) (sym e)))
 refused_first p scope text ts ls given said fault stop (Some k) h r e =
-    inr (unread p scope text ts ls stop k said fault h r (ap (λ (o : Option SyntaxFault). fault_or o (stopped_fault p text ts stop k)) (sym e)))
+    inr (unread p scope text ts ls stop k said fault h r (ap (λ (o : Option SyntaxFault). fault_before o (stopped_fault p text ts stop k)) (sym e)))
 
 pub refused_there : (p : Bool) (scope : ScopeBindings) (text : List ℕ) (ts : List Token) (ls : List Lexeme) (given : List Node) (said : List Role) (count : ℕ)
     (stop stopped : Option ℕ) → IsLexed text ts ls stop → IsReadAs p ls given said stopped → first_fault p scope text ts said ts ≡ None →
@@ -126,10 +126,10 @@ pub refused_there : (p : Bool) (scope : ScopeBindings) (text : List ℕ) (ts : L
 refused_there p scope text ts ls given said count None None h r e f = absurd cc
 refused_there p scope text ts ls given said count (Some offset) None h r e f =
     let same : length ts ≡ count = cc in
-    rw (sym same) (inr (broken p scope text ts ls offset given said _ h r (ap (λ (o : Option SyntaxFault). fault_or o (stopped_fault p text ts (Some offset) (length ts))) (sym e))))
+    rw (sym same) (inr (broken p scope text ts ls offset given said _ h r (ap (λ (o : Option SyntaxFault). fault_before o (stopped_fault p text ts (Some offset) (length ts))) (sym e))))
 refused_there p scope text ts ls given said count stop (Some k) h r e f =
     let same : k ≡ count = cc in
-    rw (sym same) (inr (unread p scope text ts ls stop k said _ h r (ap (λ (o : Option SyntaxFault). fault_or o (stopped_fault p text ts stop k)) (sym e))))
+    rw (sym same) (inr (unread p scope text ts ls stop k said _ h r (ap (λ (o : Option SyntaxFault). fault_before o (stopped_fault p text ts stop k)) (sym e))))
 
 pub read_whole : (p : Bool) (scope : ScopeBindings) (text : List ℕ) (ts : List Token) (ls : List Lexeme) (given : List Node) (said : List Role)
     (stop stopped : Option ℕ) → IsLexed text ts ls stop → IsReadAs p ls given said stopped → first_fault p scope text ts said ts ≡ None →

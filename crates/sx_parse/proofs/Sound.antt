@@ -15,7 +15,7 @@ use Rattle.sx_parse.specs.declared.lexemes.Lexeme.TheVariants as lexeme
 use Rattle.sx_parse.specs.declared.lexemes.StepPrefix.{StepPrefix}
 use Rattle.sx_parse.specs.declared.lexemes.StepPrefix.TheVariants as prefix
 use Rattle.sx_parse.specs.declared.lexemes.Test.TheVariants as test
-use Rattle.sx_parse.specs.Grammar.{operator_of, level, left_level, casting_level, prefix_level, prefix_allowed, is_prefix, names_axis, is_function, takes_name, introduces, returns, begins_step, allows, Tree, literal, dot, parent, root, variable, step, empty, parens, call, called, comma, prefixed, binary, cast, choice, bind, Bindings, binder_of, sign, prefix_tokens, tokens, binding_tokens, ends_in_root, value_ends_in_root, PrefixFits, Fits, BindingsFit}
+use Rattle.sx_parse.specs.Grammar.{operator_of, level, left_level, casting_level, prefix_level, prefix_allowed, is_prefix, names_axis, is_function, takes_name, introduces, returns, begins_step, allows_lexeme, Tree, literal, dot, parent, root, variable, step, empty, parens, call, called, comma, prefixed, binary, cast, choice, bind, Bindings, binder_of, sign, prefix_tokens, tokens, binding_tokens, ends_in_root, value_ends_in_root, PrefixFits, Fits, BindingsFit}
 use Rattle.sx_parse.specs.Machine.{Given, begun, behind, Stack, bottom, pending, more, signed, paren, arguments, predicate, condition, branch, otherwise, binding, body, State, want, fresh, slash, named, dollar, axis, kind, kind_name, have, comma_bound, binder_dollar, binder_name, casting, casting_as, conditioned, in_pattern, floor, bound, given_binder, reaches, Reached, reached, reach, when, begin_mark, begin, close_empty, begin_fresh, close_under, close_bracket, else_under, comma_under, return_under, operate_on, cast_on, question, follow_operator, follow_mark, follow_name, follow, open_kind, open_plain, open_name, name_axis, name_binder, follow_named, axis_test, in_kind, end_kind, variable_name, bound_dollar, bound_name, cast_as, cast_type, then_word, follow_slash, read, whole_under, whole, ended}
 use Rattle.sx_parse.proofs.Running.{accept}
 use Rattle.sx_parse.proofs.Running as running
@@ -108,7 +108,7 @@ GivenFits (behind bs) = BindingsFit bs
 abbrev pub Sound : Stack → Type 0
 Sound (bottom p) = Unit {0}
 Sound (pending a l o s) =
-    (operator_of l ≡ Some o) × (allows (in_pattern s) l ≡ true) × (floor s ≤ level o) × Fits (in_pattern s) (left_level o) a
+    (operator_of l ≡ Some o) × (allows_lexeme (in_pattern s) l ≡ true) × (floor s ≤ level o) × Fits (in_pattern s) (left_level o) a
     × (ends_in_root a && begins_step l ≡ false) × Sound s
 Sound (more a s) = (in_pattern s ≡ false) × (floor s ≤ 0) × Fits false 0 a × Sound s
 Sound (signed o s) = (prefix_allowed (in_pattern s) o ≡ true) × (floor s ≤ prefix_level o) × Sound s
@@ -407,7 +407,7 @@ both_false : (a : Bool) → a && true ≡ false → a ≡ false
 both_false true e = e
 both_false false e = refl
 
-operate_goes : (s : Stack) (t : Tree) (l : Lexeme) (o : Operator) (r : Reached) → operator_of l ≡ Some o → allows (in_pattern s) l ≡ true →
+operate_goes : (s : Stack) (t : Tree) (l : Lexeme) (o : Operator) (r : Reached) → operator_of l ≡ Some o → allows_lexeme (in_pattern s) l ≡ true →
     ends_in_root t && begins_step l ≡ false → Joined s t (left_level o) r → Goes (flag s) (stack_tokens s ++ tokens t) l (operate_on l o r)
 operate_goes s t l o r e a h j =
     goes_joined s t (left_level o) r l (operate_on l o r) j
@@ -429,9 +429,9 @@ follow_operator_goes : (s : Stack) (t : Tree) (l : Lexeme) (o : Operator) → op
     Fits (in_pattern s) (floor s) t →
     ends_in_root t && begins_step l ≡ false → Sound s → Goes (flag s) (stack_tokens s ++ tokens t) l (follow_operator t s l o)
 follow_operator_goes s t l o e f g h w =
-    only_goes (allows (in_pattern s) l && reaches (in_pattern s) (left_level o) t) (flag s) (stack_tokens s ++ tokens t) l (operate_on l o (reach (left_level o) t s))
-    (λ b. operate_goes s t l o (reach (left_level o) t s) e (and_left (allows (in_pattern s) l) (reaches (in_pattern s) (left_level o) t) b) h
-    (joins s (left_level o) t (f (left_level o) (and_right (allows (in_pattern s) l) (reaches (in_pattern s) (left_level o) t) b)) g w))
+    only_goes (allows_lexeme (in_pattern s) l && reaches (in_pattern s) (left_level o) t) (flag s) (stack_tokens s ++ tokens t) l (operate_on l o (reach (left_level o) t s))
+    (λ b. operate_goes s t l o (reach (left_level o) t s) e (and_left (allows_lexeme (in_pattern s) l) (reaches (in_pattern s) (left_level o) t) b) h
+    (joins s (left_level o) t (f (left_level o) (and_right (allows_lexeme (in_pattern s) l) (reaches (in_pattern s) (left_level o) t) b)) g w))
 
 cast_goes : (s : Stack) (t : Tree) (k : Casting) (p : ℕ) (r : Reached) → in_pattern s ≡ false → ends_in_root t ≡ false →
     Joined s t (suc (casting_level k)) r →

@@ -1,4 +1,4 @@
--- Tables of texts, and the words.
+-- Tables of texts, and the words_by_text.
 use Rattle.std.proofs.Common.{◌≡◌, ℕ, Bool, true, false, cond, eqb, List, [], ◌∷◌, map, Option, Some, None, refl, ap, sym, ◌∙◌, ◌||◌}
 use Rattle.std.specs.Prelude.{bytes_eq}
 use Rattle.std.proofs.lemmas.Bool.{false≢true}
@@ -6,7 +6,7 @@ use Rattle.std.specs.Option.{unwrap_or}
 use Rattle.std.specs.Prelude.{is_some}
 use Rattle.std.specs.List.{list_any}
 use Rattle.sx_chars.specs.Names.{behind}
-use Rattle.sx_parse.specs.Lexemes.{found, words, word_with, word_of}
+use Rattle.sx_parse.specs.Lexemes.{found, words_by_text, word_with, word_of}
 use Rattle.sx_parse.specs.Checks.{fn_uri, xs_uri, functions, constructors, function_named}
 use Rattle.sx_parse.specs.declared.lexemes.Word.{Word}
 use Rattle.sx_parse.specs.declared.lexemes.Word.TheVariants as word
@@ -50,7 +50,7 @@ word_prefixed text some = by (behind 58 text) (behind_some 58 text some)
     by (Some local) some = refl
     by None some = absurd (false≢true some)
 
-pub word_plain : (text : List ℕ) (w : Word) → list_any (λ y. eqb y 58) text ≡ false → w ≡ found words text word.Other → w ≡ word_of text
+pub word_plain : (text : List ℕ) (w : Word) → list_any (λ y. eqb y 58) text ≡ false → w ≡ found words_by_text text word.Other → w ≡ word_of text
 word_plain text w none is = is ∙ ap (word_with text) (sym (behind_none 58 text none))
 
 -- the functions of the namespace of functions, and those of the namespace of types

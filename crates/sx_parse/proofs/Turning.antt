@@ -14,17 +14,17 @@ use Rattle.sx_parse.specs.declared.templates.Next.TheVariants as next
 use Rattle.sx_parse.specs.declared.value_templates.Turn.TheVariants as turn
 use Rattle.sx_parse.specs.Answers.{IsRefused, is_too_long}
 use Rattle.sx_parse.specs.Checks.{most_bytes}
-use Rattle.sx_parse.specs.Numbers.{Name}
-use Rattle.sx_parse.specs.Parsed.{AreParts, AreRead, IsRefusedInside, IsSaid, IsTemplate, IsUnmatched, shifted}
-use Rattle.sx_parse.specs.Templates.{Piece, fixed, inner, all_written, written, Breaks, IsNext}
+use Rattle.sx_parse.specs.Numbers.{NameEntry}
+use Rattle.sx_parse.specs.Parsed.{AreTemplateParts, ArePiecesRead, IsRefusedInside, IsSaid, IsTemplate, IsUnmatched, shifted}
+use Rattle.sx_parse.specs.Templates.{Piece, fixed, inner, all_written, piece_written, Breaks, IsNext}
 use Rattle.sx_parse.specs.Turning.{IsReadTo, Turns}
 use Rattle.sx_parse.proofs.CutTemplates.{cut_begins, cut_fixed, cut_inner, cut_ends, cut_size}
 use Rattle.sx_parse.proofs.Pieces.{inner_of, inner_is}
 
 -- ---- one piece more
 
-fixed_push : (scope : ScopeBindings) (line : ℕ) (ps : List Piece) (old : List Name) (n : ℕ) (parts : List AvtPart) (new : List Name) (m : ℕ) (text : List ℕ) →
-    AreParts scope line ps old n parts new m → AreParts scope line (ps ++ fixed text ∷ []) old n (parts ++ avt_part.Fixed text ∷ []) new m
+fixed_push : (scope : ScopeBindings) (line : ℕ) (ps : List Piece) (old : List NameEntry) (n : ℕ) (parts : List AvtPart) (new : List NameEntry) (m : ℕ) (text : List ℕ) →
+    AreTemplateParts scope line ps old n parts new m → AreTemplateParts scope line (ps ++ fixed text ∷ []) old n (parts ++ avt_part.Fixed text ∷ []) new m
 fixed_push scope line [] old n [] new m text h = (refl, (refl, h.1, h.2))
 fixed_push scope line [] old n (part ∷ parts) new m text h = absurd (let never = h.0 in cc)
 fixed_push scope line (fixed t ∷ ps) old n [] new m text h = absurd h
@@ -33,11 +33,11 @@ fixed_push scope line (inner t ∷ ps) old n [] new m text h = absurd h
 fixed_push scope line (inner t ∷ ps) old n (part ∷ parts) new m text h =
     (h.0, h.1, h.2, h.3, h.4, fixed_push scope line ps h.1 h.2 parts new m text h.5)
 
-inner_push : (scope : ScopeBindings) (line : ℕ) (ps : List Piece) (old : List Name) (n : ℕ) (parts : List AvtPart) (new : List Name) (m : ℕ)
-    (text : List ℕ) (names : List Name) (k : ℕ) (e : Expr) → AreParts scope line ps old n parts new m → IsSaid scope text line new m names k e →
-    AreParts scope line (ps ++ inner text ∷ []) old n (parts ++ avt_part.Inner e ∷ []) names k
+inner_push : (scope : ScopeBindings) (line : ℕ) (ps : List Piece) (old : List NameEntry) (n : ℕ) (parts : List AvtPart) (new : List NameEntry) (m : ℕ)
+    (text : List ℕ) (names : List NameEntry) (k : ℕ) (e : Expr) → AreTemplateParts scope line ps old n parts new m → IsSaid scope text line new m names k e →
+    AreTemplateParts scope line (ps ++ inner text ∷ []) old n (parts ++ avt_part.Inner e ∷ []) names k
 inner_push scope line [] old n [] new m text names k e h said =
-    (e, names, k, refl, subst (λ (a : ℕ). IsSaid scope text line old a names k e) h.2 (subst (λ (a : List Name). IsSaid scope text line a m names k e) h.1 said), (refl, refl, refl))
+    (e, names, k, refl, subst (λ (a : ℕ). IsSaid scope text line old a names k e) h.2 (subst (λ (a : List NameEntry). IsSaid scope text line a m names k e) h.1 said), (refl, refl, refl))
 inner_push scope line [] old n (part ∷ parts) new m text names k e h said = absurd (let never = h.0 in cc)
 inner_push scope line (fixed t ∷ ps) old n [] new m text names k e h said = absurd h
 inner_push scope line (fixed t ∷ ps) old n (part ∷ parts) new m text names k e h said =
@@ -46,14 +46,14 @@ inner_push scope line (inner t ∷ ps) old n [] new m text names k e h said = ab
 inner_push scope line (inner t ∷ ps) old n (part ∷ parts) new m text names k e h said =
     (h.0, h.1, h.2, h.3, h.4, inner_push scope line ps h.1 h.2 parts new m text names k e h.5 said)
 
-read_push : (scope : ScopeBindings) (ps : List Piece) (p : Piece) → AreRead scope ps → AreRead scope (p ∷ []) → AreRead scope (ps ++ p ∷ [])
+read_push : (scope : ScopeBindings) (ps : List Piece) (p : Piece) → ArePiecesRead scope ps → ArePiecesRead scope (p ∷ []) → ArePiecesRead scope (ps ++ p ∷ [])
 read_push scope [] p h one = one
 read_push scope (fixed t ∷ ps) p h one = read_push scope ps p h one
 read_push scope (inner t ∷ ps) p h one = (h.0, read_push scope ps p h.1 one)
 
 -- ---- turns
 
-pub read_begins : (scope : ScopeBindings) (text : List ℕ) (line : ℕ) (old : List Name) (n : ℕ) → IsUtf8 text → IsReadTo scope text line old n 0 [] old n
+pub read_begins : (scope : ScopeBindings) (text : List ℕ) (line : ℕ) (old : List NameEntry) (n : ℕ) → IsUtf8 text → IsReadTo scope text line old n 0 [] old n
 read_begins scope text line old n utf8 = record {
   pieces = [];
   cut = cut_begins text utf8;
@@ -64,7 +64,7 @@ read_begins scope text line old n utf8 = record {
 }
 
 -- fixed text stands next
-pub turn_fixed : (scope : ScopeBindings) (text : List ℕ) (line : ℕ) (old : List Name) (n offset : ℕ) (parts : List AvtPart) (new : List Name) (m : ℕ)
+pub turn_fixed : (scope : ScopeBindings) (text : List ℕ) (line : ℕ) (old : List NameEntry) (n offset : ℕ) (parts : List AvtPart) (new : List NameEntry) (m : ℕ)
     (fixed_text : List ℕ) (end : ℕ) → IsNext text offset (next.Fixed fixed_text end) → IsReadTo scope text line old n offset parts new m →
     IsReadTo scope text line old n end (parts ++ avt_part.Fixed fixed_text ∷ []) new m
 turn_fixed scope text line old n offset parts new m fixed_text end found h =
@@ -79,8 +79,8 @@ turn_fixed scope text line old n offset parts new m fixed_text end found h =
     }
 
 -- the text of an expression stands next, and is read
-pub turn_inner : (scope : ScopeBindings) (text : List ℕ) (line : ℕ) (old : List Name) (n offset : ℕ) (parts : List AvtPart) (new : List Name) (m : ℕ)
-    (start end : ℕ) (names : List Name) (k : ℕ) (e : Expr) → IsNext text offset (next.Inner start end) → IsReadTo scope text line old n offset parts new m →
+pub turn_inner : (scope : ScopeBindings) (text : List ℕ) (line : ℕ) (old : List NameEntry) (n offset : ℕ) (parts : List AvtPart) (new : List NameEntry) (m : ℕ)
+    (start end : ℕ) (names : List NameEntry) (k : ℕ) (e : Expr) → IsNext text offset (next.Inner start end) → IsReadTo scope text line old n offset parts new m →
     IsSaid scope (inner_of text start end) line new m names k e → k ≤ m + 2 * length (inner_of text start end) →
     IsReadTo scope text line old n (end + 1) (parts ++ avt_part.Inner e ∷ []) names k
 turn_inner scope text line old n offset parts new m start end names k e found h said grows =
@@ -100,7 +100,7 @@ turn_inner scope text line old n offset parts new m start end names k e found h 
     })
 
 -- the text of an expression stands next, and is refused
-pub turn_refused : (scope : ScopeBindings) (text : List ℕ) (line : ℕ) (old : List Name) (n offset : ℕ) (parts : List AvtPart) (new : List Name) (m : ℕ)
+pub turn_refused : (scope : ScopeBindings) (text : List ℕ) (line : ℕ) (old : List NameEntry) (n offset : ℕ) (parts : List AvtPart) (new : List NameEntry) (m : ℕ)
     (start end : ℕ) (inside : SyntaxFault) → IsNext text offset (next.Inner start end) → IsReadTo scope text line old n offset parts new m →
     IsRefused false scope (inner_of text start end) inside → IsRefusedInside scope text (shifted start inside)
 turn_refused scope text line old n offset parts new m start end inside found h refusal = record {
@@ -110,14 +110,14 @@ turn_refused scope text line old n offset parts new m start end inside found h r
   read = h.read;
   rest = drop (suc end) text;
   text_is = h.cut.written ∙ ap (λ (rest : List ℕ). all_written h.pieces ++ rest) (inner_is text offset start end found)
-      ∙ sym (append_assoc (all_written h.pieces) (written (inner (inner_of text start end))) (drop (suc end) text));
+      ∙ sym (append_assoc (all_written h.pieces) (piece_written (inner (inner_of text start end))) (drop (suc end) text));
   inside = inside;
   refusal = refusal;
   fault_is = ap (λ (place : ℕ). shifted place inside) (found.begins ∙ ap suc (cut_size text h.pieces offset h.cut));
 }
 
 -- a brace stands next that nothing matches
-pub turn_unmatched : (scope : ScopeBindings) (text : List ℕ) (line : ℕ) (old : List Name) (n offset : ℕ) (parts : List AvtPart) (new : List Name) (m : ℕ)
+pub turn_unmatched : (scope : ScopeBindings) (text : List ℕ) (line : ℕ) (old : List NameEntry) (n offset : ℕ) (parts : List AvtPart) (new : List NameEntry) (m : ℕ)
     (fault : SyntaxFault) → IsNext text offset (next.Fault fault) → IsReadTo scope text line old n offset parts new m → IsUnmatched scope text fault
 turn_unmatched scope text line old n offset parts new m fault found h = record {
   pieces = h.pieces;
@@ -131,12 +131,12 @@ turn_unmatched scope text line old n offset parts new m fault found h = record {
 -- ---- all turns
 
 -- between turns
-pub record IsTurning (scope : ScopeBindings) (text : List ℕ) (old names : List Name) (first at : Numbering) (offset : ℕ) (parts : List AvtPart) : Type 0 where
+pub record IsTurning (scope : ScopeBindings) (text : List ℕ) (old names : List NameEntry) (first at : Numbering) (offset : ℕ) (parts : List AvtPart) : Type 0 where
   pub read : IsReadTo scope text at.line old first.next offset parts names at.next
   pub line : at.line ≡ first.line
   pub kept : KeepsPlaces old names
 
-pub turning_begins : (scope : ScopeBindings) (text : List ℕ) (names : List Name) (at : Numbering) (parts : List AvtPart) → IsUtf8 text → parts ≡ [] →
+pub turning_begins : (scope : ScopeBindings) (text : List ℕ) (names : List NameEntry) (at : Numbering) (parts : List AvtPart) → IsUtf8 text → parts ≡ [] →
     IsTurning scope text names names at at 0 parts
 turning_begins scope text names at parts utf8 none = record {
   read = subst (λ (ps : List AvtPart). IsReadTo scope text at.line names at.next 0 ps names at.next) (sym none) (read_begins scope text at.line names at.next utf8);
@@ -145,7 +145,7 @@ turning_begins scope text names at parts utf8 none = record {
 }
 
 -- what a turn leaves
-pub turning_goes_on : (scope : ScopeBindings) (text : List ℕ) (old names more : List Name) (first at after : Numbering) (offset end : ℕ) (parts pushed : List AvtPart) →
+pub turning_goes_on : (scope : ScopeBindings) (text : List ℕ) (old names more : List NameEntry) (first at after : Numbering) (offset end : ℕ) (parts pushed : List AvtPart) →
     IsTurning scope text old names first at offset parts → after.line ≡ at.line → KeepsPlaces names more →
     Turns scope text at.line old first.next offset (turn.Behind end) pushed more after.next → IsTurning scope text old more first after end pushed
 turning_goes_on scope text old names more first at after offset end parts pushed h line kept turned = record {
@@ -155,7 +155,7 @@ turning_goes_on scope text old names more first at after offset end parts pushed
 }
 
 -- all is read
-pub all_read : (scope : ScopeBindings) (text : List ℕ) (old names new : List Name) (first at after : Numbering) (offset : ℕ) (parts pushed : List AvtPart) → length text ≤ most_bytes →
+pub all_read : (scope : ScopeBindings) (text : List ℕ) (old names new : List NameEntry) (first at after : Numbering) (offset : ℕ) (parts pushed : List AvtPart) → length text ≤ most_bytes →
     IsTurning scope text old names first at offset parts → after.line ≡ at.line →
     Turns scope text at.line old first.next offset turn.Whole pushed new after.next → IsTemplate scope text old new first after pushed
 all_read scope text old names new first at after offset parts pushed short h line turned =
@@ -164,7 +164,7 @@ all_read scope text old names new first at after offset parts pushed short h lin
       pieces = r.pieces;
       are = r.cut.cut;
       text_is = (cut_ends text r.pieces offset r.cut turned.0).written ∙ append-nil (all_written r.pieces);
-      parts_are = subst (λ (l : ℕ). AreParts scope l r.pieces old first.next pushed new after.next) h.line r.parts_are;
+      parts_are = subst (λ (l : ℕ). AreTemplateParts scope l r.pieces old first.next pushed new after.next) h.line r.parts_are;
       line = line ∙ h.line;
     }
 

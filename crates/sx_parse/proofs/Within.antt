@@ -7,7 +7,7 @@ use Rattle.sx_lex.specs.declared.kinds.Token.{Token}
 use Rattle.sx_names.specs.Scope.{ScopeBindings}
 use Rattle.sx_parse.specs.declared.faults.SyntaxFault.{SyntaxFault}
 use Rattle.sx_parse.specs.declared.roles.Role.{Role}
-use Rattle.sx_parse.specs.Answers.{IsRefused, breaks, end_of, fault_in, fault_or, offset_in}
+use Rattle.sx_parse.specs.Answers.{IsRefused, breaks, end_offset, fault_in, fault_before, offset_in}
 use Rattle.sx_parse.specs.Checks.{first_fault, fault_at, role_fault}
 use Rattle.sx_parse.specs.Lexemes.{lexemes_of}
 use Rattle.sx_parse.specs.Lexing.{AreParts, AreRead}
@@ -31,7 +31,7 @@ parts_within text (t ∷ ts) all = (all.0.begins.0, parts_within text ts all.1)
 read_within : (text : List ℕ) (ts : List Token) (stop : Option ℕ) → IsUtf8 text → AreRead text ts stop → StartWithin (length text) ts
 read_within text ts stop utf8 read = parts_within text ts (parts_of_read text ts stop utf8 read)
 
-ends_within : (text : List ℕ) (ts : List Token) (stop : Option ℕ) → IsUtf8 text → AreRead text ts stop → end_of text stop ≤ length text
+ends_within : (text : List ℕ) (ts : List Token) (stop : Option ℕ) → IsUtf8 text → AreRead text ts stop → end_offset text stop ≤ length text
 ends_within text ts None utf8 read = omega arith
 ends_within text ts (Some offset) utf8 read = (front_cut text offset utf8 (ts, read)).0
 
@@ -46,7 +46,7 @@ first_within most p scope text all (r ∷ rs) [] w = omega arith
 first_within most p scope text all (r ∷ rs) (t ∷ ts) w =
     at_within most t.start (role_fault p scope text all r t) (first_fault p scope text all rs ts) w.0 (first_within most p scope text all rs ts w.1)
 
-or_within : (most : ℕ) (o : Option SyntaxFault) (other : SyntaxFault) → offset_or o ≤ most → other.offset ≤ most → (fault_or o other).offset ≤ most
+or_within : (most : ℕ) (o : Option SyntaxFault) (other : SyntaxFault) → offset_or o ≤ most → other.offset ≤ most → (fault_before o other).offset ≤ most
 or_within most None other w v = v
 or_within most (Some fault) other w v = w
 
@@ -63,8 +63,8 @@ refused_within p scope text fault utf8 (inl h) =
 refused_within p scope text fault utf8 (inr h) =
     let starts = read_within text h.tokens h.stop utf8 h.lexes in
     let rs = take h.count (roles 0 h.tree) in
-    let other = fault_in p h.tokens (lexemes_of text h.tokens) (breaks h.stop) (end_of text h.stop) h.count in
+    let other = fault_in p h.tokens (lexemes_of text h.tokens) (breaks h.stop) (end_offset text h.stop) h.count in
     let w = or_within (length text) (first_fault p scope text h.tokens rs h.tokens) other
     (first_within (length text) p scope text h.tokens rs h.tokens starts)
-    (in_within (length text) h.tokens (end_of text h.stop) h.count starts (ends_within text h.tokens h.stop utf8 h.lexes)) in
+    (in_within (length text) h.tokens (end_offset text h.stop) h.count starts (ends_within text h.tokens h.stop utf8 h.lexes)) in
     omega (arith, w, ap (λ (f : SyntaxFault). f.offset) h.first)

@@ -13,8 +13,8 @@ use Rattle.sx_parse.specs.Checks.{most_bytes, first_fault}
 use Rattle.sx_parse.specs.Grammar.{Tree, Derives, IsFault}
 use Rattle.sx_parse.specs.Lexemes.{lexemes_of}
 use Rattle.sx_parse.specs.Lexing.{AreRead}
-use Rattle.sx_parse.specs.Numbers.{Name, names_among, numbers_among, with_names}
-use Rattle.sx_parse.specs.Reading.{Continues}
+use Rattle.sx_parse.specs.Numbers.{NameEntry, names_among, numbers_among, with_names}
+use Rattle.sx_parse.specs.Reading.{HasContinuation}
 use Rattle.sx_parse.specs.Roles.{roles}
 use Rattle.sx_parse.specs.Says.{Meaning}
 
@@ -25,12 +25,12 @@ pub record IsRead (p : Bool) (scope : ScopeBindings) (text : List ℕ) (ts : Lis
   pub sound : first_fault p scope text ts (roles 0 t) ts ≡ None
 
 -- what its words mean, with these names
-abbrev pub meaning : ScopeBindings → List ℕ → List Token → Tree → List Name → ℕ → Meaning
-meaning scope text ts t names line =
+abbrev pub meaning_in : ScopeBindings → List ℕ → List Token → Tree → List NameEntry → ℕ → Meaning
+meaning_in scope text ts t names line =
     record { text = text; tokens = ts; scope = scope; numbers = numbers_among names scope text (roles 0 t) ts; line = line }
 
 -- the names that it adds to these
-abbrev pub names_with : ScopeBindings → List ℕ → List Token → Tree → List Name → List Name
+abbrev pub names_with : ScopeBindings → List ℕ → List Token → Tree → List NameEntry → List NameEntry
 names_with scope text ts t names = with_names names (names_among scope text (roles 0 t) ts)
 
 -- ---- faults
@@ -55,9 +55,9 @@ open_behind count (lexeme.Mark mark.CloseBracket) = count - 1
 open_behind count l = count
 
 -- whether a predicate is open behind these tokens, where so many are before them
-abbrev pub is_inside : ℕ → List Lexeme → Bool
-is_inside count [] = nat_lt 0 count
-is_inside count (l ∷ ls) = is_inside (open_behind count l) ls
+abbrev pub is_in_predicate : ℕ → List Lexeme → Bool
+is_in_predicate count [] = nat_lt 0 count
+is_in_predicate count (l ∷ ls) = is_in_predicate (open_behind count l) ls
 
 -- the code of a fault of grammar: that of patterns stands outside their predicates, where a token begins
 abbrev pub code_of : Bool → Bool → Bool → Code
@@ -66,19 +66,19 @@ code_of pattern breaks inside = if pattern && not breaks && not inside then code
 -- the fault of grammar at the token with this number, among the tokens of a text that ends, or breaks where the flag is set, at an offset
 abbrev pub fault_in : Bool → List Token → List Lexeme → Bool → ℕ → ℕ → SyntaxFault
 fault_in pattern ts ls breaks end k =
-    record { code = code_of pattern (breaks && nat_eq k (length ls)) (is_inside 0 (take k ls)); offset = offset_in ts end k }
+    record { code = code_of pattern (breaks && nat_eq k (length ls)) (is_in_predicate 0 (take k ls)); offset = offset_in ts end k }
 
-abbrev pub end_of : List ℕ → Option ℕ → ℕ
-end_of text None = length text
-end_of text (Some offset) = offset
+abbrev pub end_offset : List ℕ → Option ℕ → ℕ
+end_offset text None = length text
+end_offset text (Some offset) = offset
 
 abbrev pub breaks : Option ℕ → Bool
 breaks None = false
 breaks (Some offset) = true
 
-abbrev pub fault_or : Option SyntaxFault → SyntaxFault → SyntaxFault
-fault_or (Some fault) other = fault
-fault_or None other = other
+abbrev pub fault_before : Option SyntaxFault → SyntaxFault → SyntaxFault
+fault_before (Some fault) other = fault
+fault_before None other = other
 
 -- the text is derived, and this is the first thing that is wrong with its tokens
 pub record IsUnsound (p : Bool) (scope : ScopeBindings) (text : List ℕ) (fault : SyntaxFault) : Type 0 where
@@ -97,9 +97,9 @@ pub record IsUnread (p : Bool) (scope : ScopeBindings) (text : List ℕ) (fault 
   pub count : ℕ
   pub stops : StopsAt p (lexemes_of text tokens) stop count
   pub tree : Tree
-  pub continues : Continues p (take count (lexemes_of text tokens)) tree
-  pub first : fault ≡ fault_or (first_fault p scope text tokens (take count (roles 0 tree)) tokens)
-      (fault_in p tokens (lexemes_of text tokens) (breaks stop) (end_of text stop) count)
+  pub continues : HasContinuation p (take count (lexemes_of text tokens)) tree
+  pub first : fault ≡ fault_before (first_fault p scope text tokens (take count (roles 0 tree)) tokens)
+      (fault_in p tokens (lexemes_of text tokens) (breaks stop) (end_offset text stop) count)
 
 abbrev pub IsRefused : Bool → ScopeBindings → List ℕ → SyntaxFault → Type 0
 IsRefused p scope text fault = IsUnsound p scope text fault ⊎ IsUnread p scope text fault

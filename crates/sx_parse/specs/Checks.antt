@@ -12,8 +12,8 @@ use Rattle.sx_atoms.specs.declared.functions.TextFn.TheVariants as text_fn
 use Rattle.sx_atoms.specs.declared.functions.SeqFn.TheVariants as seq_fn
 use Rattle.sx_atoms.specs.Casting.{cast_of}
 use Rattle.sx_chars.specs.Names.{prefix_of, local_of}
-use Rattle.sx_fn_seq.specs.Signatures.{signature_of as signature_seq}
-use Rattle.sx_fn_text.specs.Signatures.{signature_of as signature_text}
+use Rattle.sx_fn_seq.specs.Signatures.{seq_signature as signature_seq}
+use Rattle.sx_fn_text.specs.Signatures.{text_signature as signature_text}
 use Rattle.sx_kinds.specs.declared.expressions.Function.{Function}
 use Rattle.sx_kinds.specs.declared.expressions.Function.TheVariants as function
 use Rattle.sx_lex.specs.declared.kinds.Token.{Token}
@@ -23,7 +23,7 @@ use Rattle.sx_names.specs.Scope.{ScopeBindings, bound}
 use Rattle.sx_parse.specs.declared.faults.SyntaxFault.{SyntaxFault}
 use Rattle.sx_parse.specs.declared.roles.Role.{Role}
 use Rattle.sx_parse.specs.declared.roles.Role.TheVariants as role
-use Rattle.sx_parse.specs.Lexemes.{found, text_of}
+use Rattle.sx_parse.specs.Lexemes.{found, text_of_token}
 
 -- the namespace of the functions, and that of the types
 abbrev pub fn_uri : List ℕ
@@ -141,15 +141,15 @@ function_with text (Some uri) = function_named uri (local_of text)
 abbrev pub function_of : ScopeBindings → List ℕ → Option Function
 function_of scope text = function_with text (function_uri scope text)
 
--- whether a function takes this many arguments
-abbrev pub takes : Option Function → ℕ → Bool
-takes None count = false
-takes (Some (function.Text f)) count = allows (signature_text f) count
-takes (Some (function.Seq f)) count = allows (signature_seq f) count
+-- whether a function accepts_count this many arguments
+abbrev pub accepts_count : Option Function → ℕ → Bool
+accepts_count None count = false
+accepts_count (Some (function.Text f)) count = allows (signature_text f) count
+accepts_count (Some (function.Seq f)) count = allows (signature_seq f) count
 
 -- whether a call of a function may have this many arguments
 abbrev pub takes_arguments : Function → ℕ → Bool
-takes_arguments f count = takes (Some f) count
+takes_arguments f count = accepts_count (Some f) count
 
 -- what stands in quotes, from behind the first one on: a doubled quote is one, and the last one ends it
 abbrev pub unquoted : ℕ → List ℕ → List ℕ
@@ -157,22 +157,22 @@ unquoted quote [] = []
 unquoted quote (c ∷ []) = []
 unquoted quote (c ∷ d ∷ rest) = if c == quote then c ∷ unquoted quote rest else c ∷ unquoted quote (d ∷ rest)
 
-abbrev pub content : List ℕ → List ℕ
-content [] = []
-content (quote ∷ rest) = unquoted quote rest
+abbrev pub literal_content : List ℕ → List ℕ
+literal_content [] = []
+literal_content (quote ∷ rest) = unquoted quote rest
 
 -- the value of a literal: a number as its text is cast, or the text in quotes
 abbrev pub literal_of : TokenKind → List ℕ → Result Atom Code
 literal_of token_kind.Integer text = cast_of (atom.Untyped text) atom_type.Integer
 literal_of token_kind.Decimal text = cast_of (atom.Untyped text) atom_type.Decimal
-literal_of kind text = Ok (atom.Str (content text))
+literal_of kind text = Ok (atom.Str (literal_content text))
 
 -- the most bytes of an expression, a pattern or a value template, and the most things that are open at once
 abbrev pub most_bytes : ℕ
 most_bytes = 4096
 
-abbrev pub most_open : ℕ
-most_open = 64
+abbrev pub most_nested : ℕ
+most_nested = 64
 
 abbrev pub fails : Code → Bool → Option Code
 fails c true = Some c
@@ -213,19 +213,19 @@ literal_fault (Ok a) = None
 literal_fault (Err c) = Some code.Xpst0003
 
 -- the bytes of the token at a place, and none past the last
-abbrev pub text_at : List ℕ → List Token → ℕ → List ℕ
-text_at text ts place = option_map_or (text_of text) (slice_get ts place) []
+abbrev pub token_text : List ℕ → List Token → ℕ → List ℕ
+token_text text ts place = option_map_or (text_of_token text) (slice_get ts place) []
 
 -- what is wrong with a token of this role, if anything is: in a pattern, where the flag is set
 abbrev pub role_fault : Bool → ScopeBindings → List ℕ → List Token → Role → Token → Option Code
 role_fault pattern scope text ts role.Plain token = None
-role_fault pattern scope text ts role.Name token = name_fault (name_uri scope (text_of text token))
-role_fault pattern scope text ts role.Wild token = wild_fault scope (text_of text token)
-role_fault pattern scope text ts role.Function token = function_fault pattern (function_uri scope (text_of text token)) (function_of scope (text_of text token))
-role_fault pattern scope text ts role.Type token = type_fault (name_uri scope (text_of text token)) (text_of text token)
-role_fault pattern scope text ts role.Literal token = literal_fault (literal_of token.kind (text_of text token))
-role_fault pattern scope text ts (role.Opens count) token = fails code.Sxst0002 (nat_lt most_open count)
-role_fault pattern scope text ts (role.Closes place count) token = fails code.Xpst0017 (not (takes (function_of scope (text_at text ts place)) count))
+role_fault pattern scope text ts role.Name token = name_fault (name_uri scope (text_of_token text token))
+role_fault pattern scope text ts role.Wild token = wild_fault scope (text_of_token text token)
+role_fault pattern scope text ts role.Function token = function_fault pattern (function_uri scope (text_of_token text token)) (function_of scope (text_of_token text token))
+role_fault pattern scope text ts role.Type token = type_fault (name_uri scope (text_of_token text token)) (text_of_token text token)
+role_fault pattern scope text ts role.Literal token = literal_fault (literal_of token.kind (text_of_token text token))
+role_fault pattern scope text ts (role.Opens count) token = fails code.Sxst0002 (nat_lt most_nested count)
+role_fault pattern scope text ts (role.Closes place count) token = fails code.Xpst0017 (not (accepts_count (function_of scope (token_text text ts place)) count))
 
 abbrev pub fault_at : ℕ → Option Code → Option SyntaxFault → Option SyntaxFault
 fault_at offset (Some c) others = Some (record { code = c; offset = offset })

@@ -28,7 +28,7 @@ use Rattle.sx_parse.specs.declared.frames.Mode.{Mode}
 use Rattle.sx_parse.specs.declared.frames.Mode.TheVariants as mode
 use Rattle.sx_parse.specs.declared.reader.Reader.{Reader}
 use Rattle.sx_parse.specs.declared.reader.Reading.{Reading}
-use Rattle.sx_parse.specs.Grammar.{level, left_level, casting_level, prefix_level, prefix_floor, names_axis, takes_name, introduces, returns, begins_step, allows}
+use Rattle.sx_parse.specs.Grammar.{level, left_level, casting_level, prefix_level, prefix_floor, names_axis, takes_name, introduces, returns, begins_step, allows_lexeme}
 use Rattle.sx_parse.specs.Roles.{inner_role}
 
 -- what is open and what is pending, the innermost first; the operands that are complete; what the tokens are; how many things are
@@ -309,7 +309,7 @@ open_predicate f sh = if reaches (in_pattern f) 16 sh then opened f (frame.Predi
 
 abbrev pub follow_operator : Flat → Shape → ℕ → Lexeme → Operator → Outcome
 follow_operator f sh c l o =
-    if allows (in_pattern f) l && reaches (in_pattern f) (left_level o) sh then operate (joined_at (left_level o) f c).flat o else refuse f
+    if allows_lexeme (in_pattern f) l && reaches (in_pattern f) (left_level o) sh then operate (joined_at (left_level o) f c).flat o else refuse f
 
 abbrev pub follow_comma : Flat → ℕ → Outcome
 follow_comma f c = if in_pattern f then refuse f else comma (joined_at 0 f c)

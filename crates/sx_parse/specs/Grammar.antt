@@ -145,12 +145,12 @@ begins_step (lexeme.Mark mark.Dollar) = true
 begins_step l = false
 
 -- whether an operator may stand in a pattern outside predicates, where the flag is set: `|`, `/` and `//`
-abbrev pub allows : Bool → Lexeme → Bool
-allows false l = true
-allows true (lexeme.Mark (mark.Operator operator.Union)) = true
-allows true (lexeme.Mark (mark.Operator operator.Slash)) = true
-allows true (lexeme.Mark (mark.Operator operator.DoubleSlash)) = true
-allows true l = false
+abbrev pub allows_lexeme : Bool → Lexeme → Bool
+allows_lexeme false l = true
+allows_lexeme true (lexeme.Mark (mark.Operator operator.Union)) = true
+allows_lexeme true (lexeme.Mark (mark.Operator operator.Slash)) = true
+allows_lexeme true (lexeme.Mark (mark.Operator operator.DoubleSlash)) = true
+allows_lexeme true l = false
 
 -- ---- derivations
 
@@ -293,7 +293,7 @@ abbrev mutual
   Fits p n (comma a b) = (p ≡ false) × (n ≤ 0) × Fits false 0 a × Fits false 1 b
   Fits p n (prefixed o e) = (prefix_allowed p o ≡ true) × (n ≤ prefix_level o) × Fits p (prefix_floor o) e
   Fits p n (binary a l o b) =
-      (operator_of l ≡ Some o) × (allows p l ≡ true) × (n ≤ level o) × Fits p (left_level o) a × (ends_in_root a && begins_step l ≡ false)
+      (operator_of l ≡ Some o) × (allows_lexeme p l ≡ true) × (n ≤ level o) × Fits p (left_level o) a × (ends_in_root a && begins_step l ≡ false)
       × Fits p (suc (level o)) b
   Fits p n (cast e k i j w m optional) = (p ≡ false) × (n ≤ casting_level k) × Fits false (suc (casting_level k)) e × (ends_in_root e ≡ false)
   Fits p n (choice i c j t k e) = (p ≡ false) × (n ≤ 1) × Fits false 0 c × Fits false 1 t × (ends_in_root t ≡ false) × Fits false 1 e

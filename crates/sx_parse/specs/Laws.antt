@@ -8,10 +8,10 @@ use Rattle.sx_lex.specs.declared.kinds.Token.{Token}
 use Rattle.sx_names.specs.Scope.{ScopeBindings}
 use Rattle.sx_parse.specs.declared.faults.SyntaxFault.{SyntaxFault}
 use Rattle.sx_parse.specs.declared.lexemes.Lexeme.{Lexeme}
-use Rattle.sx_parse.specs.Answers.{IsRead, IsRefused, meaning}
+use Rattle.sx_parse.specs.Answers.{IsRead, IsRefused, meaning_in}
 use Rattle.sx_parse.specs.Checks.{takes_arguments}
 use Rattle.sx_parse.specs.Grammar.{Derives, IsFault, Tree}
-use Rattle.sx_parse.specs.Numbers.{Name}
+use Rattle.sx_parse.specs.Numbers.{NameEntry}
 use Rattle.sx_parse.specs.Says.{alternatives, says}
 
 -- ---- tokens
@@ -56,14 +56,14 @@ HasOneRefusal p scope text = (f g : SyntaxFault) → IsUtf8 text → IsRefused p
 -- what it says, where it is read, is formed, whatever names there are before it
 abbrev pub SaysFormed : Bool → ScopeBindings → List ℕ → Type 0
 SaysFormed p scope text =
-    (ts : List Token) (t : Tree) (names : List Name) (line : ℕ) → IsRead p scope text ts t →
-    IsFormed takes_arguments (says (meaning scope text ts t names line) t)
+    (ts : List Token) (t : Tree) (names : List NameEntry) (line : ℕ) → IsRead p scope text ts t →
+    IsFormed takes_arguments (says (meaning_in scope text ts t names line) t)
 
 -- so are its alternatives
 abbrev pub HasFormedAlternatives : Bool → ScopeBindings → List ℕ → Type 0
 HasFormedAlternatives p scope text =
-    (ts : List Token) (t : Tree) (names : List Name) (line : ℕ) → IsRead p scope text ts t →
-    AreFormed takes_arguments (alternatives (meaning scope text ts t names line) t)
+    (ts : List Token) (t : Tree) (names : List NameEntry) (line : ℕ) → IsRead p scope text ts t →
+    AreFormed takes_arguments (alternatives (meaning_in scope text ts t names line) t)
 
 -- the second of two expressions is formed where the first is, whatever arguments calls may have
 abbrev pub KeepsForm : Expr → Expr → Type 0

@@ -18,9 +18,9 @@ use Rattle.sx_parse.specs.declared.lexemes.Mark.TheVariants as mark
 use Rattle.sx_parse.specs.declared.lexemes.Lexeme.{Lexeme}
 use Rattle.sx_parse.specs.declared.lexemes.Lexeme.TheVariants as lexeme
 
--- the words that may be more than a name (XPath 3.1, A.1)
-abbrev pub words : List (List ℕ × Word)
-words =
+-- the words_by_text that may be more than a name (XPath 3.1, A.1)
+abbrev pub words_by_text : List (List ℕ × Word)
+words_by_text =
     (codes "or", word.Operator operator.Or)
     ∷ (codes "and", word.Operator operator.And)
     ∷ (codes "eq", word.Operator (operator.Compare cmp.Eq false))
@@ -74,15 +74,15 @@ found (row ∷ rows) text x = if bytes_eq row.0 text then row.1 else found rows 
 
 abbrev pub word_with : List ℕ → Option (List ℕ) → Word
 word_with text (Some local) = word.Prefixed
-word_with text None = found words text word.Other
+word_with text None = found words_by_text text word.Other
 
 -- what a name may be: a word is one without a prefix
 abbrev pub word_of : List ℕ → Word
 word_of text = word_with text (behind 58 text)
 
 -- the symbols (XPath 3.1, A.2)
-abbrev pub marks : List (List ℕ × Mark)
-marks =
+abbrev pub marks_by_text : List (List ℕ × Mark)
+marks_by_text =
     (codes "(", mark.Open)
     ∷ (codes ")", mark.Close)
     ∷ (codes "[", mark.OpenBracket)
@@ -112,7 +112,7 @@ marks =
 
 -- the symbol that a text is; `?` is the only other one
 abbrev pub mark_of : List ℕ → Mark
-mark_of text = found marks text mark.Question
+mark_of text = found marks_by_text text mark.Question
 
 -- a token of a kind and with a text, as the grammar sees it
 abbrev pub lexeme_of : TokenKind → List ℕ → ℕ → Lexeme
@@ -124,13 +124,13 @@ lexeme_of token_kind.Str text place = lexeme.Literal place
 lexeme_of token_kind.Mark text place = lexeme.Mark (mark_of text)
 
 -- the bytes of a token in its text
-abbrev pub text_of : List ℕ → Token → List ℕ
-text_of text token = take (token.end - token.start) (drop token.start text)
+abbrev pub text_of_token : List ℕ → Token → List ℕ
+text_of_token text token = take (token.end - token.start) (drop token.start text)
 
 -- the tokens of a text as the grammar sees them, the first of them at a place among all
 abbrev pub lexemes_from : ℕ → List ℕ → List Token → List Lexeme
 lexemes_from place text [] = []
-lexemes_from place text (token ∷ others) = lexeme_of token.kind (text_of text token) place ∷ lexemes_from (suc place) text others
+lexemes_from place text (token ∷ others) = lexeme_of token.kind (text_of_token text token) place ∷ lexemes_from (suc place) text others
 
 abbrev pub lexemes_of : List ℕ → List Token → List Lexeme
 lexemes_of text ts = lexemes_from 0 text ts

@@ -4,7 +4,7 @@ use Rattle.std.specs.Str.{IsCharBoundary}
 use Rattle.sx_lex.specs.Tokens.{AreTokens, BreaksBehind, kind_of}
 use Rattle.sx_lex.specs.declared.kinds.Token.{Token}
 use Rattle.sx_parse.specs.declared.lexemes.Lexeme.{Lexeme}
-use Rattle.sx_parse.specs.Lexemes.{text_of, lexemes_of}
+use Rattle.sx_parse.specs.Lexemes.{text_of_token, lexemes_of}
 
 -- these are the tokens of a text, or those in front of the offset at which none begins
 abbrev pub AreRead : List ℕ → List Token → Option ℕ → Type 0
@@ -16,7 +16,7 @@ pub record IsPart (text : List ℕ) (token : Token) : Type 0 where
   pub order : token.start < token.end
   pub begins : IsCharBoundary text token.start
   pub ends : IsCharBoundary text token.end
-  pub kind : kind_of (text_of text token) ≡ Some token.kind
+  pub kind : kind_of (text_of_token text token) ≡ Some token.kind
 
 -- each of these tokens is a part of a text
 abbrev pub AreParts : List ℕ → List Token → Type 0

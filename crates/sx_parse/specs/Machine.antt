@@ -15,7 +15,7 @@ use Rattle.sx_parse.specs.declared.lexemes.Lexeme.TheVariants as lexeme
 use Rattle.sx_parse.specs.declared.lexemes.StepPrefix.{StepPrefix}
 use Rattle.sx_parse.specs.declared.lexemes.StepPrefix.TheVariants as prefix
 use Rattle.sx_parse.specs.declared.lexemes.Test.TheVariants as test
-use Rattle.sx_parse.specs.Grammar.{level, left_level, casting_level, prefix_level, prefix_floor, names_axis, takes_name, introduces, returns, begins_step, allows, Tree, literal, dot, parent, root, variable, step, empty, parens, call, called, filter, comma, prefixed, binary, cast, choice, bind, Bindings, first, also, binder_of}
+use Rattle.sx_parse.specs.Grammar.{level, left_level, casting_level, prefix_level, prefix_floor, names_axis, takes_name, introduces, returns, begins_step, allows_lexeme, Tree, literal, dot, parent, root, variable, step, empty, parens, call, called, filter, comma, prefixed, binary, cast, choice, bind, Bindings, first, also, binder_of}
 
 -- bindings that have begun: with a word, or behind others and a comma
 pub data Given : Type 0 where
@@ -190,7 +190,7 @@ question (cast e k i j w m false) s = Some (have (cast e k i j w m true) s)
 question t s = None
 
 abbrev pub follow_operator : Tree → Stack → Lexeme → Operator → Option State
-follow_operator t s l o = if allows (in_pattern s) l && reaches (in_pattern s) (left_level o) t then operate_on l o (reach (left_level o) t s) else None
+follow_operator t s l o = if allows_lexeme (in_pattern s) l && reaches (in_pattern s) (left_level o) t then operate_on l o (reach (left_level o) t s) else None
 
 abbrev pub follow_mark : Tree → Stack → Mark → Option State
 follow_mark t s (mark.Operator o) = follow_operator t s (lexeme.Mark (mark.Operator o)) o

@@ -23,8 +23,8 @@ abbrev pub in_order : Bool → ℕ → List (Bool → Numbers) → List Expr
 in_order outside n [] = []
 in_order outside n (p ∷ ps) = (p outside).from n ∷ in_order outside (n + (p outside).count) ps
 
-abbrev pub with_number : ℕ → Construct → Construct
-with_number n c = record c { number = n }
+abbrev pub construct_with_number : ℕ → Construct → Construct
+construct_with_number n c = record c { number = n }
 
 -- whether the parts are parts of the pattern: a path is in front of a step, and what else has parts has predicates
 abbrev pub is_path : ExprForm → Bool
@@ -35,7 +35,7 @@ is_path f = false
 abbrev pub numbers_with : Expr-F (Bool → Numbers) → Bool → Numbers
 numbers_with e false = record {
   count = suc (counts false e.parts);
-  from = λ n. roll-Expr (record { construct = with_number n e.construct; deep = e.deep; form = e.form; parts = in_order false (suc n) e.parts });
+  from = λ n. roll-Expr (record { construct = construct_with_number n e.construct; deep = e.deep; form = e.form; parts = in_order false (suc n) e.parts });
 }
 numbers_with e true = record {
   count = counts (is_path e.form) e.parts;
@@ -46,8 +46,8 @@ abbrev pub numbers_in : Expr → Bool → Numbers
 numbers_in = fold-Expr (Bool → Numbers) numbers_with
 
 -- how many constructs are in an expression, itself counted
-abbrev pub count : Expr → ℕ
-count e = (numbers_in e false).count
+abbrev pub construct_count : Expr → ℕ
+construct_count e = (numbers_in e false).count
 
 -- an expression whose constructs are numbered from a number on
 abbrev pub numbered : ℕ → Expr → Expr

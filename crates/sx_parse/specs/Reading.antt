@@ -18,9 +18,9 @@ turns (lexeme.Mark mark.Dollar) = true
 turns l = false
 
 -- the first of these tokens, if there is one, is none of those
-abbrev pub IsQuiet : List Lexeme → Type 0
-IsQuiet [] = Unit {0}
-IsQuiet (l ∷ ls) = turns l ≡ false
+abbrev pub SaysNothing : List Lexeme → Type 0
+SaysNothing [] = Unit {0}
+SaysNothing (l ∷ ls) = turns l ≡ false
 
 -- whether the last of these tokens is a name
 abbrev pub ends_in_name : List Lexeme → Bool
@@ -30,14 +30,14 @@ ends_in_name (l ∷ []) = false
 ends_in_name (l ∷ m ∷ ls) = ends_in_name (m ∷ ls)
 
 -- a derivation that begins with these tokens, in which the last of them, where it is a name, is what it is by itself
-pub record Continues (p : Bool) (ts : List Lexeme) (t : Tree) : Type 0 where
+pub record HasContinuation (p : Bool) (ts : List Lexeme) (t : Tree) : Type 0 where
   pub rest : List Lexeme
   pub fits : Fits p 0 t
   pub tokens_are : tokens t ≡ ts ++ rest
-  pub quiet : ends_in_name ts ≡ true → IsQuiet rest
+  pub quiet : ends_in_name ts ≡ true → SaysNothing rest
 
 -- all was read: the derivation, its list and its roles
-pub record IsWhole (p : Bool) (ts : List Lexeme) (given : List Node) (said : List Role) : Type 0 where
+pub record IsWholeReading (p : Bool) (ts : List Lexeme) (given : List Node) (said : List Role) : Type 0 where
   pub tree : Tree
   pub derives : Derives p ts tree
   pub nodes_are : given ≡ nodes tree
@@ -47,9 +47,9 @@ pub record IsWhole (p : Bool) (ts : List Lexeme) (given : List Node) (said : Lis
 pub record IsStopped (p : Bool) (ts : List Lexeme) (k : ℕ) (said : List Role) : Type 0 where
   pub fault : IsFault p ts k
   pub tree : Tree
-  pub continues : Continues p (take k ts) tree
+  pub continues : HasContinuation p (take k ts) tree
   pub roles_are : said ≡ take k (roles 0 tree)
 
 abbrev pub IsReadAs : Bool → List Lexeme → List Node → List Role → Option ℕ → Type 0
-IsReadAs p ts given said None = IsWhole p ts given said
+IsReadAs p ts given said None = IsWholeReading p ts given said
 IsReadAs p ts given said (Some k) = IsStopped p ts k said

@@ -40,7 +40,7 @@ use Rattle.sx_parse.specs.declared.lexemes.StepPrefix.{StepPrefix}
 use Rattle.sx_parse.specs.declared.lexemes.StepPrefix.TheVariants as prefix
 use Rattle.sx_parse.specs.declared.lexemes.Test.{Test}
 use Rattle.sx_parse.specs.declared.lexemes.Test.TheVariants as test
-use Rattle.sx_parse.specs.Checks.{name_uri, or_none, function_of, type_named, literal_of, text_at}
+use Rattle.sx_parse.specs.Checks.{name_uri, or_none, function_of, type_named, literal_of, token_text}
 use Rattle.sx_parse.specs.Grammar.{axis_of, Tree, literal, dot, parent, root, variable, step, empty, parens, call, called, filter, comma, prefixed, binary, cast, choice, bind, Bindings, first, also, binder_of}
 use Rattle.sx_parse.specs.Nodes.{takes_more}
 
@@ -103,7 +103,7 @@ kind_test kind_word.Element = node_test.Element None
 kind_test kind_word.Attribute = node_test.Attribute None
 
 abbrev pub named_kind_test : Meaning → KindWord → ℕ → NodeTest
-named_kind_test m kind_word.ProcessingInstruction q = node_test.Pi (Some (text_at m.text m.tokens q))
+named_kind_test m kind_word.ProcessingInstruction q = node_test.Pi (Some (token_text m.text m.tokens q))
 named_kind_test m kind_word.Element q = node_test.Element (Some (number_at m q))
 named_kind_test m kind_word.Attribute q = node_test.Attribute (Some (number_at m q))
 named_kind_test m k q = kind_test k
@@ -111,12 +111,12 @@ named_kind_test m k q = kind_test k
 abbrev pub node_test_of : Meaning → Test → NodeTest
 node_test_of m (test.Named w p) = node_test.Name (number_at m p)
 node_test_of m test.Any = node_test.AnyName
-node_test_of m (test.Wild p) = wild_test m.scope (text_at m.text m.tokens p)
+node_test_of m (test.Wild p) = wild_test m.scope (token_text m.text m.tokens p)
 node_test_of m (test.Kind k p) = kind_test k
 node_test_of m (test.KindOf k p w q) = named_kind_test m k q
 
-abbrev pub step_of : Meaning → Axis → NodeTest → Expr
-step_of m a t = made m kind.Step (form.Step a t) []
+abbrev pub step_expression : Meaning → Axis → NodeTest → Expr
+step_expression m a t = made m kind.Step (form.Step a t) []
 
 -- ---- the other leaves
 
@@ -132,22 +132,22 @@ or_empty_text (Ok a) = a
 or_empty_text (Err c) = atom.Str []
 
 abbrev pub literal_atom : Meaning → ℕ → Atom
-literal_atom m place = or_empty_text (literal_of (token_kind_at m place) (text_at m.text m.tokens place))
+literal_atom m place = or_empty_text (literal_of (token_kind_at m place) (token_text m.text m.tokens place))
 
 abbrev pub or_true : Option Function → Function
 or_true None = function.Seq seq_fn.True
 or_true (Some f) = f
 
 abbrev pub called_function : Meaning → ℕ → Function
-called_function m place = or_true (function_of m.scope (text_at m.text m.tokens place))
+called_function m place = or_true (function_of m.scope (token_text m.text m.tokens place))
 
 abbrev pub or_untyped : Option AtomType → AtomType
 or_untyped None = atom_type.Untyped
 or_untyped (Some t) = t
 
-abbrev pub type_at : Meaning → ℕ → AtomType
-type_at m place =
-    or_untyped (type_named (or_none (name_uri m.scope (text_at m.text m.tokens place))) (local_of (text_at m.text m.tokens place)))
+abbrev pub type_named_at : Meaning → ℕ → AtomType
+type_named_at m place =
+    or_untyped (type_named (or_none (name_uri m.scope (token_text m.text m.tokens place))) (local_of (token_text m.text m.tokens place)))
 
 -- ---- what joins operands
 
@@ -184,9 +184,9 @@ bound_by m binder.Some n a e = made m kind.Some (form.Some n) (a ∷ e ∷ [])
 bound_by m binder.Every n a e = made m kind.Every (form.Every n) (a ∷ e ∷ [])
 
 -- operands that commas join: one alone is itself
-abbrev pub whole : Meaning → List Expr → Expr
-whole m (e ∷ []) = e
-whole m es = made m kind.Comma form.Comma es
+abbrev pub whole_expression : Meaning → List Expr → Expr
+whole_expression m (e ∷ []) = e
+whole_expression m es = made m kind.Comma form.Comma es
 
 abbrev pub filtered : Meaning → Bool → Expr → Expr → Expr
 filtered m true b e = with_part b e
@@ -200,30 +200,30 @@ abbrev mutual
   pub operands : Meaning → Tree → List Expr
   operands m (literal p) = made m kind.LiteralValue (form.Literal (literal_atom m p)) [] ∷ []
   operands m dot = made m kind.Dot form.Dot [] ∷ []
-  operands m parent = step_of m axis.Parent node_test.Node ∷ []
+  operands m parent = step_expression m axis.Parent node_test.Node ∷ []
   operands m root = root_of m ∷ []
   operands m (variable w p) = made m kind.Var (form.Var (number_at m p) any_type) [] ∷ []
-  operands m (step pre t) = step_of m (step_axis pre t) (node_test_of m t) ∷ []
+  operands m (step pre t) = step_expression m (step_axis pre t) (node_test_of m t) ∷ []
   operands m empty = made m kind.Empty form.Empty [] ∷ []
-  operands m (parens e) = whole m (operands m e) ∷ []
+  operands m (parens e) = whole_expression m (operands m e) ∷ []
   operands m (call w p) = call_of m p [] ∷ []
   operands m (called w p e) = call_of m p (operands m e) ∷ []
-  operands m (filter b e) = filtered m (takes_more b) (whole m (operands m b)) (whole m (operands m e)) ∷ []
-  operands m (comma a b) = operands m a ++ whole m (operands m b) ∷ []
-  operands m (prefixed o e) = begun_by m o (whole m (operands m e)) ∷ []
-  operands m (binary a l o b) = joined_by m o (whole m (operands m a)) (whole m (operands m b)) ∷ []
-  operands m (cast e k p q w r optional) = cast_by m k (type_at m r) optional (whole m (operands m e)) ∷ []
-  operands m (choice p c q t r e) = made m kind.If form.If (whole m (operands m c) ∷ whole m (operands m t) ∷ whole m (operands m e) ∷ []) ∷ []
-  operands m (bind bs l e) = bound_in m bs (whole m (operands m e)) ∷ []
+  operands m (filter b e) = filtered m (takes_more b) (whole_expression m (operands m b)) (whole_expression m (operands m e)) ∷ []
+  operands m (comma a b) = operands m a ++ whole_expression m (operands m b) ∷ []
+  operands m (prefixed o e) = begun_by m o (whole_expression m (operands m e)) ∷ []
+  operands m (binary a l o b) = joined_by m o (whole_expression m (operands m a)) (whole_expression m (operands m b)) ∷ []
+  operands m (cast e k p q w r optional) = cast_by m k (type_named_at m r) optional (whole_expression m (operands m e)) ∷ []
+  operands m (choice p c q t r e) = made m kind.If form.If (whole_expression m (operands m c) ∷ whole_expression m (operands m t) ∷ whole_expression m (operands m e) ∷ []) ∷ []
+  operands m (bind bs l e) = bound_in m bs (whole_expression m (operands m e)) ∷ []
 
   -- each variable is bound in what follows it
   pub bound_in : Meaning → Bindings → Expr → Expr
-  bound_in m (first k p w r l a) e = bound_by m k (number_at m r) (whole m (operands m a)) e
-  bound_in m (also bs w r l a) e = bound_in m bs (bound_by m (binder_of bs) (number_at m r) (whole m (operands m a)) e)
+  bound_in m (first k p w r l a) e = bound_by m k (number_at m r) (whole_expression m (operands m a)) e
+  bound_in m (also bs w r l a) e = bound_in m bs (bound_by m (binder_of bs) (number_at m r) (whole_expression m (operands m a)) e)
 
 -- what a derivation says
 abbrev pub says : Meaning → Tree → Expr
-says m t = whole m (operands m t)
+says m t = whole_expression m (operands m t)
 
 -- the alternatives of the derivation of a pattern (XSLT 3.0, 5.5.2)
 abbrev pub alternatives : Meaning → Tree → List Expr

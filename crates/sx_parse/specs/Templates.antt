@@ -16,19 +16,19 @@ pub data Piece : Type 0 where
 abbrev pub is_brace : ℕ → Bool
 is_brace c = c == 123 || c == 125
 
--- fixed text as it is written
+-- fixed text as it is piece_written
 abbrev pub doubled : List ℕ → List ℕ
 doubled [] = []
 doubled (c ∷ cs) = if is_brace c then c ∷ c ∷ doubled cs else c ∷ doubled cs
 
--- a piece as it is written
-abbrev pub written : Piece → List ℕ
-written (fixed text) = doubled text
-written (inner text) = 123 ∷ text ++ 125 ∷ []
+-- a piece as it is piece_written
+abbrev pub piece_written : Piece → List ℕ
+piece_written (fixed text) = doubled text
+piece_written (inner text) = 123 ∷ text ++ 125 ∷ []
 
 abbrev pub all_written : List Piece → List ℕ
 all_written [] = []
-all_written (piece ∷ pieces) = written piece ++ all_written pieces
+all_written (piece ∷ pieces) = piece_written piece ++ all_written pieces
 
 abbrev pub begins_with : ℕ → List ℕ → Bool
 begins_with brace [] = false
@@ -75,25 +75,25 @@ abbrev pub unopened_at : ℕ → SyntaxFault
 unopened_at offset = record { code = code.Xtse0370; offset = offset }
 
 -- behind its pieces, at this offset, a template ends
-abbrev pub Ends : List ℕ → Type 0
-Ends rest = rest ≡ []
+abbrev pub EndsText : List ℕ → Type 0
+EndsText rest = rest ≡ []
 
 -- behind its pieces, at this offset, a template has a brace that nothing matches
 abbrev pub Breaks : ℕ → List ℕ → SyntaxFault → Type 0
 Breaks offset rest fault = (IsUnclosed rest × (fault ≡ unclosed_at offset)) ⊎ (IsUnopened rest × (fault ≡ unopened_at offset))
 
 -- a text is cut into these pieces, up to its end or to a brace that nothing matches
-pub record IsCut (text : List ℕ) (pieces : List Piece) (rest : List ℕ) : Type 0 where
+pub record IsCutInPieces (text : List ℕ) (pieces : List Piece) (rest : List ℕ) : Type 0 where
   pub written : text ≡ all_written pieces ++ rest
   pub cut : ArePieces false pieces
-  pub stops : Ends rest ⊎ (IsUnclosed rest ⊎ IsUnopened rest)
+  pub stops : EndsText rest ⊎ (IsUnclosed rest ⊎ IsUnopened rest)
 
 -- fixed text goes on no further here: nothing is left, or a brace that is not doubled
 abbrev pub StopsFixed : List ℕ → Type 0
 StopsFixed [] = Unit {0}
 StopsFixed (c ∷ cs) = (is_brace c ≡ true) × (begins_with c cs ≡ false)
 
--- fixed text stands in front, and so many bytes of it as it is written
+-- fixed text stands in front, and so many bytes of it as it is piece_written
 pub record IsFixedFront (text rest : List ℕ) (size : ℕ) : Type 0 where
   pub within : size ≤ length rest
   pub written : take size rest ≡ doubled text

@@ -5,8 +5,8 @@ use Rattle.sx_kinds.specs.declared.expressions.AvtPart.{AvtPart}
 use Rattle.sx_names.specs.Scope.{ScopeBindings}
 use Rattle.sx_parse.specs.declared.value_templates.Turn.{Turn}
 use Rattle.sx_parse.specs.declared.value_templates.Turn.TheVariants as turn
-use Rattle.sx_parse.specs.Numbers.{Name}
-use Rattle.sx_parse.specs.Parsed.{AreParts, AreRead, IsRefusedInside, IsUnmatched}
+use Rattle.sx_parse.specs.Numbers.{NameEntry}
+use Rattle.sx_parse.specs.Parsed.{AreTemplateParts, ArePiecesRead, IsRefusedInside, IsUnmatched}
 use Rattle.sx_parse.specs.Templates.{Piece, fixed, inner, all_written, ArePieces, StopsFixed}
 
 -- whether the last piece is fixed text; the flag, where there is none
@@ -23,16 +23,16 @@ pub record IsCutTo (text : List ℕ) (pieces : List Piece) (offset : ℕ) : Type
   pub boundary : IsCharBoundary text offset
 
 -- up to an offset a text is cut into pieces that are read as these parts, their names and numbers behind the first ones
-pub record IsReadTo (scope : ScopeBindings) (text : List ℕ) (line : ℕ) (old : List Name) (n offset : ℕ) (parts : List AvtPart) (new : List Name) (m : ℕ) : Type 0 where
+pub record IsReadTo (scope : ScopeBindings) (text : List ℕ) (line : ℕ) (old : List NameEntry) (n offset : ℕ) (parts : List AvtPart) (new : List NameEntry) (m : ℕ) : Type 0 where
   pub pieces : List Piece
   pub cut : IsCutTo text pieces offset
-  pub read : AreRead scope pieces
-  pub parts_are : AreParts scope line pieces old n parts new m
+  pub read : ArePiecesRead scope pieces
+  pub parts_are : AreTemplateParts scope line pieces old n parts new m
   pub more : n ≤ m
   pub few : m ≤ n + 2 * offset
 
 -- what a turn at an offset shows of a text that is read up to there: it is read to its end, or refused here, or read further
-abbrev pub Turns : ScopeBindings → List ℕ → ℕ → List Name → ℕ → ℕ → Turn → List AvtPart → List Name → ℕ → Type 0
+abbrev pub Turns : ScopeBindings → List ℕ → ℕ → List NameEntry → ℕ → ℕ → Turn → List AvtPart → List NameEntry → ℕ → Type 0
 Turns scope text line old n offset turn.Whole parts new m =
     (length text ≤ offset) × IsReadTo scope text line old n offset parts new m
 Turns scope text line old n offset (turn.Refused fault) parts new m =

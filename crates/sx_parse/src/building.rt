@@ -4,7 +4,7 @@ ghost use Rattle.sx_parse.specs.Built as stack_of;
 ghost use Rattle.sx_parse.specs.Grammar.{Tree};
 ghost use Rattle.sx_parse.specs.Nodes.{nodes as nodes_of};
 ghost use Rattle.sx_parse.specs.Says as spec;
-ghost use Rattle.sx_parse.specs.Wording.{IsCut, meaning_of};
+ghost use Rattle.sx_parse.specs.Wording.{IsCutWording, meaning_of};
 
 use crate::forms::{deepened, made, made_of_none, made_of_one, made_of_two, two, with_part};
 use crate::lexemes::{Binder, Casting, Operator};
@@ -218,7 +218,7 @@ fn filtered(
 }
 
 fn call(words: &Wording, place: u32, arguments: Exprs) -> Expr
-    requires { IsCut words.now }
+    requires { IsCutWording words.now }
     ensures { result ≡ spec.call_of (meaning_of words.now) place arguments }
 {
     let function = words.called_function(place);
@@ -251,7 +251,7 @@ fn choice(
 }
 
 fn literal(alloc: Global, words: &Wording, place: u32) -> Result<Expr, AllocError>
-    requires cut { IsCut words.now }
+    requires cut { IsCutWording words.now }
     requires literal { stack_of.IsLiteralAt (meaning_of words.now) place }
     ensures { IfOk result
         (λ e. e ≡ spec.made (meaning_of words.now) ConstructKind.LiteralValue
@@ -281,15 +281,16 @@ fn put_called(
     place: u32,
     stack: &mut Operands,
 ) -> Result<(), AllocError>
-    requires { IsCut words.now }
-    ensures { OnOk result (stack.new ≡ stack_of.put (meaning_of words.now) (Node.Called place) stack.old) }
+    requires { IsCutWording words.now }
+    ensures { OnOk result (stack.new
+        ≡ stack_of.put_node (meaning_of words.now) (Node.Called place) stack.old) }
 {
     let arguments = stack.take_list(alloc);
     stack.put(alloc, call(words, place, arguments))
 }
 
 fn put_parens(alloc: Global, words: &Wording, stack: &mut Operands) -> Result<(), AllocError>
-    ensures { OnOk result (stack.new ≡ stack_of.put (meaning_of words.now) Node.Parens stack.old) }
+    ensures { OnOk result (stack.new ≡ stack_of.put_node (meaning_of words.now) Node.Parens stack.old) }
 {
     let e = stack.take(alloc, words);
     stack.put(alloc, e)
@@ -302,7 +303,7 @@ fn put_prefix(
     stack: &mut Operands,
 ) -> Result<(), AllocError>
     ensures { OnOk result (stack.new
-        ≡ stack_of.put (meaning_of words.now) (Node.Prefix operator) stack.old) }
+        ≡ stack_of.put_node (meaning_of words.now) (Node.Prefix operator) stack.old) }
 {
     let e = stack.take(alloc, words);
     stack.put(alloc, begun_by(alloc, words, operator, e)?)
@@ -316,9 +317,9 @@ fn put_cast(
     optional: bool,
     stack: &mut Operands,
 ) -> Result<(), AllocError>
-    requires { IsCut words.now }
+    requires { IsCutWording words.now }
     ensures { OnOk result (stack.new
-        ≡ stack_of.put (meaning_of words.now) (Node.Cast casting to optional) stack.old) }
+        ≡ stack_of.put_node (meaning_of words.now) (Node.Cast casting to optional) stack.old) }
 {
     let e = stack.take(alloc, words);
     let named = words.type_at(to);
@@ -331,7 +332,8 @@ fn put_filter(
     more: bool,
     stack: &mut Operands,
 ) -> Result<(), AllocError>
-    ensures { OnOk result (stack.new ≡ stack_of.put (meaning_of words.now) (Node.Filter more) stack.old) }
+    ensures { OnOk result (stack.new
+        ≡ stack_of.put_node (meaning_of words.now) (Node.Filter more) stack.old) }
 {
     let predicate = stack.take(alloc, words);
     let base = stack.take(alloc, words);
@@ -339,7 +341,7 @@ fn put_filter(
 }
 
 fn put_comma(alloc: Global, words: &Wording, stack: &mut Operands) -> Result<(), AllocError>
-    ensures { OnOk result (stack.new ≡ stack_of.put (meaning_of words.now) Node.Comma stack.old) }
+    ensures { OnOk result (stack.new ≡ stack_of.put_node (meaning_of words.now) Node.Comma stack.old) }
 {
     let last = stack.take(alloc, words);
     let mut operands = stack.take_list(alloc);
@@ -354,7 +356,7 @@ fn put_binary(
     stack: &mut Operands,
 ) -> Result<(), AllocError>
     ensures { OnOk result (stack.new
-        ≡ stack_of.put (meaning_of words.now) (Node.Binary operator) stack.old) }
+        ≡ stack_of.put_node (meaning_of words.now) (Node.Binary operator) stack.old) }
 {
     let b = stack.take(alloc, words);
     let a = stack.take(alloc, words);
@@ -362,7 +364,7 @@ fn put_binary(
 }
 
 fn put_choice(alloc: Global, words: &Wording, stack: &mut Operands) -> Result<(), AllocError>
-    ensures { OnOk result (stack.new ≡ stack_of.put (meaning_of words.now) Node.Choice stack.old) }
+    ensures { OnOk result (stack.new ≡ stack_of.put_node (meaning_of words.now) Node.Choice stack.old) }
 {
     let otherwise = stack.take(alloc, words);
     let then = stack.take(alloc, words);
@@ -378,7 +380,7 @@ fn put_bind(
     stack: &mut Operands,
 ) -> Result<(), AllocError>
     ensures { OnOk result (stack.new
-        ≡ stack_of.put (meaning_of words.now) (Node.Bind binder place) stack.old) }
+        ≡ stack_of.put_node (meaning_of words.now) (Node.Bind binder place) stack.old) }
 {
     let e = stack.take(alloc, words);
     let value = stack.take(alloc, words);
@@ -388,9 +390,9 @@ fn put_bind(
 
 /// A node takes its operands, and puts what it makes of them in their place.
 fn put(alloc: Global, words: &Wording, node: Node, stack: &mut Operands) -> Result<(), AllocError>
-    requires cut { IsCut words.now }
+    requires cut { IsCutWording words.now }
     requires literal { stack_of.IsLiteralIn (meaning_of words.now) node }
-    ensures { OnOk result (stack.new ≡ stack_of.put (meaning_of words.now) node stack.old) }
+    ensures { OnOk result (stack.new ≡ stack_of.put_node (meaning_of words.now) node stack.old) }
 {
     match node {
         Node::Literal(place) => stack.put(alloc, literal(alloc, words, place)?),
@@ -425,7 +427,7 @@ fn put(alloc: Global, words: &Wording, node: Node, stack: &mut Operands) -> Resu
 
 /// The operands of the derivation whose nodes these are.
 pub(crate) fn build(alloc: Global, words: &Wording, nodes: &[Node]) -> Result<Exprs, AllocError>
-    requires cut { IsCut words.now }
+    requires cut { IsCutWording words.now }
     requires literals { stack_of.AreLiteralsIn (meaning_of words.now) nodes.now }
     ensures { IfOk result
         (λ es. (t : Tree) → nodes.now ≡ nodes_of t → es ≡ spec.operands (meaning_of words.now) t) }

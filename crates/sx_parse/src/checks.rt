@@ -155,7 +155,7 @@ fn literal_fault(alloc: Global, kind: TokenKind, text: &str) -> Result<Option<Co
 /// The text of the token at a place, and none past the last.
 pub(crate) fn text_at<'a>(text: &'a str, tokens: &[Token], place: u32) -> &'a str
     requires { AreParts text.now tokens.now }
-    ensures { result.now ≡ spec.text_at text.now tokens.now place }
+    ensures { result.now ≡ spec.token_text text.now tokens.now place }
 {
     match tokens.get(place as usize) {
         None => "",

@@ -95,7 +95,7 @@ pub(crate) fn with_part(expr: Expr, part: Expr) -> Result<Expr, AllocError>
 
 /// Operands that commas join: one alone is itself.
 pub(crate) fn whole(words: &Wording, mut operands: Exprs) -> Expr
-    ensures { result ≡ spec.whole (meaning_of words.now) operands }
+    ensures { result ≡ spec.whole_expression (meaning_of words.now) operands }
 {
     if operands.len() == 1 {
         if let Some(alone) = operands.pop() {

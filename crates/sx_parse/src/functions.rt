@@ -165,7 +165,7 @@ pub(crate) fn function_of(scope: &Scope, name: &str) -> Option<Function>
 
 /// Whether a function takes this many arguments.
 pub(crate) fn takes(function: Option<Function>, count: u64) -> bool
-    ensures { result ≡ spec.takes function count }
+    ensures { result ≡ spec.accepts_count function count }
 {
     match function {
         None => false,
@@ -177,7 +177,7 @@ pub(crate) fn takes(function: Option<Function>, count: u64) -> bool
 /// What stands in quotes (XPath 3.1, A.2.1, StringLiteral).
 fn content(alloc: Global, text: &str) -> Result<String, AllocError>
     requires { is_literal text.now ≡ true }
-    ensures { IfOk result (λ s. string_bytes s ≡ spec.content text.now) }
+    ensures { IfOk result (λ s. string_bytes s ≡ spec.literal_content text.now) }
 {
     let quote = char::from(text.as_bytes()[0]);
     unquoted(alloc, quote, &text[1..])

@@ -1,7 +1,7 @@
 // The tokens of a text, and what they are to the grammar.
 ghost use Rattle.std.specs.Prelude.{◌≡◌, ◌<◌, ◌^◌, IfOk, length};
 ghost use Rattle.sx_lex.specs.Tokens.{BreaksAt, BreaksBehind};
-ghost use Rattle.sx_parse.specs.Lexemes.{lexemes_of, text_of};
+ghost use Rattle.sx_parse.specs.Lexemes.{lexemes_of, text_of_token};
 ghost use Rattle.sx_parse.specs.Lexing.{AreParts, AreRead, IsLexed, IsPart};
 
 use crate::lexemes::Lexeme;
@@ -76,7 +76,7 @@ fn lexemes(alloc: Global, text: &str, tokens: &[Token]) -> Result<Items<Lexeme>,
 /// The part of a text that a token is.
 pub(crate) fn token_text(text: &str, token: Token) -> &str
     requires { IsPart text.now token }
-    ensures { result.now ≡ text_of text.now token }
+    ensures { result.now ≡ text_of_token text.now token }
 {
     &text[token.start as usize..token.end as usize]
 }

@@ -3,7 +3,7 @@ ghost use Rattle.std.specs.Prelude.{◌≡◌, IfOk};
 ghost use Rattle.sx_parse.specs.Checks as checks;
 ghost use Rattle.sx_parse.specs.Built.{IsLiteralAt};
 ghost use Rattle.sx_parse.specs.Says as spec;
-ghost use Rattle.sx_parse.specs.Wording.{IsCut, meaning_of};
+ghost use Rattle.sx_parse.specs.Wording.{IsCutWording, meaning_of};
 
 use crate::checks::text_at;
 use crate::functions::{function_of, literal, type_named, uri_or_none};
@@ -39,8 +39,8 @@ impl Wording<'_> {
 
     /// The text of the token at a place.
     pub(crate) fn spelled(&self, place: u32) -> &str
-        requires { IsCut self.now }
-        ensures { result.now ≡ checks.text_at self.now.text.now self.now.tokens.now place }
+        requires { IsCutWording self.now }
+        ensures { result.now ≡ checks.token_text self.now.text.now self.now.tokens.now place }
     {
         text_at(self.text, self.tokens, place)
     }
@@ -56,7 +56,7 @@ impl Wording<'_> {
 
     /// The literal at a place.
     pub(crate) fn literal_atom(&self, alloc: Global, place: u32) -> Result<Atom, AllocError>
-        requires cut { IsCut self.now }
+        requires cut { IsCutWording self.now }
         requires literal { IsLiteralAt (meaning_of self.now) place }
         ensures { IfOk result (λ a. a ≡ spec.literal_atom (meaning_of self.now) place) }
     {
@@ -68,7 +68,7 @@ impl Wording<'_> {
 
     /// The function of the name at a place.
     pub(crate) fn called_function(&self, place: u32) -> Function
-        requires { IsCut self.now }
+        requires { IsCutWording self.now }
         ensures { result ≡ spec.called_function (meaning_of self.now) place }
     {
         match function_of(self.scope, self.spelled(place)) {
@@ -79,8 +79,8 @@ impl Wording<'_> {
 
     /// The type of the name at a place.
     pub(crate) fn type_at(&self, place: u32) -> AtomType
-        requires { IsCut self.now }
-        ensures { result ≡ spec.type_at (meaning_of self.now) place }
+        requires { IsCutWording self.now }
+        ensures { result ≡ spec.type_named_at (meaning_of self.now) place }
     {
         let name = self.spelled(place);
         let (_, local) = split_name(name);

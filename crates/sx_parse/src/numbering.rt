@@ -1,7 +1,7 @@
 // The numbers of constructs.
 ghost use Rattle.std.specs.Prelude.{◌≡◌, suc, false, ◌+◌, ◌<◌, ◌^◌, map, IfOk, OnErr, OnOk};
-ghost use Rattle.sx_parse.specs.Numbered.{count, counts, in_order, is_path, numbered, numbers_in};
-ghost use Rattle.sx_parse.specs.Raised.{left_of, with_parts, whole, behind};
+ghost use Rattle.sx_parse.specs.Numbered.{construct_count, counts, in_order, is_path, numbered, numbers_in};
+ghost use Rattle.sx_parse.specs.Raised.{left_of, level_with_parts, whole_level, levels_behind};
 
 use crate::faults::Numbering;
 use crate::forms::reversed;
@@ -26,9 +26,9 @@ struct Level {
 /// An expression whose constructs are numbered in document order: its own first, then those of its parts. No number is used up
 /// where the memory does not suffice.
 pub(crate) fn number(alloc: Global, expr: Expr, at: &mut Numbering) -> Result<Expr, AllocError>
-    requires { at.old.next + count expr < 2 ^ 64 }
+    requires { at.old.next + construct_count expr < 2 ^ 64 }
     ensures expr { IfOk result (λ e. e ≡ numbered at.old.next expr) }
-    ensures next { OnOk result (at.new.next ≡ at.old.next + count expr) }
+    ensures next { OnOk result (at.new.next ≡ at.old.next + construct_count expr) }
     ensures failed { OnErr result (at.new ≡ at.old) }
     ensures line { at.new.line ≡ at.old.line }
 {
@@ -47,10 +47,11 @@ fn is_a_path(form: &ExprForm) -> bool
 // The level of an expression: its own number is given, and none of its parts has one.
 fn opened(alloc: Global, expr: Expr, outside: bool, at: &mut Numbering) -> Result<Level, AllocError>
     requires { at.old.next + (numbers_in expr outside).count < 2 ^ 64 }
-    ensures expr { IfOk result (λ l. whole l at.new.next ≡ (numbers_in expr outside).from at.old.next) }
-    ensures next { IfOk result (λ l. behind l at.new.next
+    ensures expr { IfOk result (λ l. whole_level l at.new.next
+        ≡ (numbers_in expr outside).from at.old.next) }
+    ensures next { IfOk result (λ l. levels_behind l at.new.next
         ≡ at.old.next + (numbers_in expr outside).count) }
-    ensures size { IfOk result (λ l. count expr ≡ suc (counts false (left_of l))) }
+    ensures size { IfOk result (λ l. construct_count expr ≡ suc (counts false (left_of l))) }
     ensures line { at.new.line ≡ at.old.line }
 {
     let (construct, deep, form, parts) = expr.into_fields();
@@ -84,7 +85,7 @@ fn opened(alloc: Global, expr: Expr, outside: bool, at: &mut Numbering) -> Resul
 
 // The expression of a level whose parts are all numbered.
 fn closed(level: Level) -> Expr
-    ensures { result ≡ with_parts level level.done }
+    ensures { result ≡ level_with_parts level level.done }
 {
     let Level {
         construct,

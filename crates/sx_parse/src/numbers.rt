@@ -2,7 +2,7 @@
 ghost use Rattle.std.specs.Prelude.{◌≡◌, IfOk};
 ghost use Rattle.sx_names.specs.Numbering.{KeepsPlaces};
 ghost use Rattle.sx_parse.specs.Lexing.{AreParts};
-ghost use Rattle.sx_parse.specs.Naming.{names_with, number_with};
+ghost use Rattle.sx_parse.specs.Naming.{names_with_role, number_with};
 ghost use Rattle.sx_parse.specs.Numbers.{expanded, names_among, number_in, numbers_among, with_name};
 ghost use Rattle.sx_parse.specs.Numbers.{with_names};
 
@@ -44,7 +44,7 @@ pub(crate) fn number_names(
 /// The number of a name, which is added if it is new; 0 where the role is not that of a name.
 fn number_of(scope: &Scope, names: &mut Names, text: &str, role: Role) -> Result<u64, AllocError>
     ensures names { IfOk result
-        (λ number. names.new ≡ names_with role names.old (expanded scope.now text.now)) }
+        (λ number. names.new ≡ names_with_role role names.old (expanded scope.now text.now)) }
     ensures number { IfOk result
         (λ number. number ≡ number_with role names.new (expanded scope.now text.now)) }
     ensures kept { KeepsPlaces names.old names.new }

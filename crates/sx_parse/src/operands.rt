@@ -55,7 +55,7 @@ impl Operands {
     /// Takes the list on top.
     pub(crate) fn take_list(&mut self, alloc: Global) -> Exprs
         ensures value { result ≡ spec.top self.old }
-        ensures after { self.new ≡ spec.below self.old }
+        ensures after { self.new ≡ spec.below_top self.old }
     {
         match self.lists.pop() {
             Some(list) => list,
@@ -66,7 +66,7 @@ impl Operands {
     /// Takes what commas join on top.
     pub(crate) fn take(&mut self, alloc: Global, words: &Wording) -> Expr
         ensures value { result ≡ spec.whole_top (meaning_of words.now) self.old }
-        ensures after { self.new ≡ spec.below self.old }
+        ensures after { self.new ≡ spec.below_top self.old }
     {
         whole(words, self.take_list(alloc))
     }

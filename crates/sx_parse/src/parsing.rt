@@ -44,7 +44,7 @@ fn fault_in(pattern: bool, text: &str, lexed: &Lexed, count: usize) -> SyntaxFau
     requires fit { length text.now ≤ 4096 }
     requires within { count ≤ length lexed.now.lexemes }
     ensures { result ≡ answers.fault_in pattern lexed.now.tokens (lexemes_of text.now lexed.now.tokens)
-        (answers.breaks lexed.now.stop) (answers.end_of text.now lexed.now.stop) count }
+        (answers.breaks lexed.now.stop) (answers.end_offset text.now lexed.now.stop) count }
 {
     grammar_fault(
         pattern,

@@ -10,7 +10,7 @@ use sx_tree::Axis;
 
 /// Whether an operator may stand in a pattern outside predicates, where the flag is set (XSLT 3.0, 5.5).
 pub(crate) fn allows(pattern: bool, lexeme: Lexeme) -> bool
-    ensures { result ≡ grammar.allows pattern lexeme }
+    ensures { result ≡ grammar.allows_lexeme pattern lexeme }
 {
     if !pattern {
         return true;

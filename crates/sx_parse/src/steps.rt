@@ -2,7 +2,7 @@
 ghost use Rattle.std.specs.Prelude.{◌≡◌, IfOk};
 ghost use Rattle.sx_parse.specs.Grammar.{axis_of as axis_named};
 ghost use Rattle.sx_parse.specs.Says as spec;
-ghost use Rattle.sx_parse.specs.Wording.{IsCut, meaning_of};
+ghost use Rattle.sx_parse.specs.Wording.{IsCutWording, meaning_of};
 
 use crate::forms::made_of_none;
 use crate::functions::uri_or_none;
@@ -15,7 +15,7 @@ use sx_tree::{Axis, Chars, NodeTest};
 
 /// A step on an axis.
 pub(crate) fn step_on(alloc: Global, words: &Wording, axis: Axis, test: NodeTest) -> Expr
-    ensures { result ≡ spec.step_of (meaning_of words.now) axis test }
+    ensures { result ≡ spec.step_expression (meaning_of words.now) axis test }
 {
     made_of_none(
         alloc,
@@ -32,9 +32,9 @@ pub(crate) fn step(
     prefix: StepPrefix,
     test: Test,
 ) -> Result<Expr, AllocError>
-    requires { IsCut words.now }
+    requires { IsCutWording words.now }
     ensures { IfOk result
-        (λ e. e ≡ spec.step_of (meaning_of words.now) (spec.step_axis prefix test)
+        (λ e. e ≡ spec.step_expression (meaning_of words.now) (spec.step_axis prefix test)
         (spec.node_test_of (meaning_of words.now) test)) }
 {
     Ok(step_on(
@@ -77,7 +77,7 @@ fn word_axis(word: Word) -> Axis
 }
 
 fn node_test(alloc: Global, words: &Wording, test: Test) -> Result<NodeTest, AllocError>
-    requires { IsCut words.now }
+    requires { IsCutWording words.now }
     ensures { IfOk result (λ t. t ≡ spec.node_test_of (meaning_of words.now) test) }
 {
     match test {
@@ -122,7 +122,7 @@ fn named_kind_test(
     kind: KindWord,
     place: u32,
 ) -> Result<NodeTest, AllocError>
-    requires { IsCut words.now }
+    requires { IsCutWording words.now }
     ensures { IfOk result (λ t. t ≡ spec.named_kind_test (meaning_of words.now) kind place) }
 {
     match kind {

@@ -23,7 +23,7 @@ fn open_behind(count: usize, lexeme: Lexeme) -> usize
 /// Whether a predicate is open behind tokens.
 fn is_inside(lexemes: &[Lexeme]) -> bool
     requires { length lexemes.now < 2 ^ 32 }
-    ensures { result ≡ spec.is_inside 0 lexemes.now }
+    ensures { result ≡ spec.is_in_predicate 0 lexemes.now }
 {
     let mut count = 0;
     for lexeme in lexemes {
@@ -36,7 +36,7 @@ fn is_inside(lexemes: &[Lexeme]) -> bool
 fn grammar_code(pattern: bool, lexemes: &[Lexeme], breaks: bool, count: usize) -> Code
     requires fit { length lexemes.now < 2 ^ 32 }
     requires within { count ≤ length lexemes.now }
-    ensures { result ≡ spec.code_of pattern breaks (spec.is_inside 0 (take count lexemes.now)) }
+    ensures { result ≡ spec.code_of pattern breaks (spec.is_in_predicate 0 (take count lexemes.now)) }
 {
     if pattern && !breaks && !is_inside(&lexemes[..count]) {
         Code::Xtse0340

@@ -3,7 +3,7 @@ ghost use Rattle.std.specs.Prelude.{◌≡◌, ◌<◌, ◌≤◌, ◌+◌, ◌*
 ghost use Rattle.std.specs.Prelude.{length, IfOk, IfErr, OnErr, OnOk};
 ghost use Rattle.std.specs.Str.{IsCharBoundary};
 ghost use Rattle.sx_names.specs.Numbering.{KeepsPlaces};
-ghost use Rattle.sx_parse.specs.Numbers.{Name};
+ghost use Rattle.sx_parse.specs.Numbers.{NameEntry};
 ghost use Rattle.sx_parse.specs.Parsed.{AnswersTemplate, AreFormedParts};
 ghost use Rattle.sx_parse.specs.Parsed as spec;
 ghost use Rattle.sx_parse.specs.Turning.{IsReadTo, Turns};
@@ -53,7 +53,7 @@ fn read_piece(
     requires short { length text.now ≤ 4096 }
     requires room { at.old.next < 2 ^ 63 }
     ensures turns { IfOk result
-        (λ r. (first : List Name) (n : ℕ)
+        (λ r. (first : List NameEntry) (n : ℕ)
         → IsReadTo scope.now text.now at.old.line first n offset parts.old names.old at.old.next
         → Turns scope.now text.now at.old.line first n offset r parts.new names.new at.new.next) }
     ensures line { at.new.line ≡ at.old.line }

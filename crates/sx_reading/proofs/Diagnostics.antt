@@ -4,14 +4,14 @@ use Rattle.sx_desk.specs.Desk.{Seen, Rose}
 use Rattle.sx_desk.specs.declared.desk.Failed.{Failed}
 use Rattle.sx_desk.specs.declared.desk.Out.TheVariants as out
 use Rattle.sx_reading.specs.Frame.{Sends}
-use Rattle.sx_reading.specs.Program.{Says, IsQuiet, Untouched}
+use Rattle.sx_reading.specs.Program.{Says, IsSilent, Untouched}
 
 -- the diagnostic output is as before
-pub quiet_same : (s : Seen) → IsQuiet s s
+pub quiet_same : (s : Seen) → IsSilent s s
 quiet_same s = record { known = record { told = λ t. t; shown = λ h. h }; write_faults = refl; written_length = λ t. refl; written = λ t h. refl }
 
 -- a line that is sent where the diagnostic output is as before
-pub says_after : (line : List ℕ) (old mid new : Seen) (r : Result (Unit {0}) Failed) → IsQuiet old mid → Sends out.Diagnostic line mid new r → Says line old new
+pub says_after : (line : List ℕ) (old mid new : Seen) (r : Result (Unit {0}) Failed) → IsSilent old mid → Sends out.Diagnostic line mid new r → Says line old new
 says_after line old mid new r q sends =
     let sending = sends.some.1 in
     let known = (sending.frame 0).known in
@@ -54,6 +54,6 @@ untouched_after line old new r sends =
     }
 
 -- this line was sent where the diagnostic output was as before
-pub says_line : (line line' : List ℕ) (old done mid new : Seen) (r : Result (Unit {0}) Failed) → line ≡ line' → mid ≡ done → IsQuiet old done → Sends out.Diagnostic line mid new r → Says line' old new
+pub says_line : (line line' : List ℕ) (old done mid new : Seen) (r : Result (Unit {0}) Failed) → line ≡ line' → mid ≡ done → IsSilent old done → Sends out.Diagnostic line mid new r → Says line' old new
 says_line line line' old done mid new r same_line same_desk q sends =
     subst (λ (x : List ℕ). Says x old new) same_line (says_after line old done new r q (subst (λ (x : Seen). Sends out.Diagnostic line x new r) same_desk sends))

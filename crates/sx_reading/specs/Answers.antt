@@ -10,17 +10,17 @@ use Rattle.sx_reading.specs.declared.status.Status.{Status}
 use Rattle.sx_reading.specs.declared.status.Status.TheVariants as status
 
 -- the exit status of the program
-abbrev pub number_of : Status → ℕ
-number_of status.Ok = 0
-number_of status.Usage = 1
-number_of (status.Static c l) = 2
-number_of (status.Dynamic c) = 3
-number_of (status.Malformed i f) = 4
-number_of status.OpenFault = 5
-number_of status.ReadFault = 6
-number_of status.WriteFault = 7
-number_of (status.Limit i f) = 8
-number_of status.OutOfMemory = 9
+abbrev pub status_number : Status → ℕ
+status_number status.Ok = 0
+status_number status.Usage = 1
+status_number (status.Static c l) = 2
+status_number (status.Dynamic c) = 3
+status_number (status.Malformed i f) = 4
+status_number status.OpenFault = 5
+status_number status.ReadFault = 6
+status_number status.WriteFault = 7
+status_number (status.Limit i f) = 8
+status_number status.OutOfMemory = 9
 
 -- the line of an error on a line of the stylesheet, whose number it names
 abbrev pub static_line : Code → ℕ → List ℕ
@@ -38,7 +38,7 @@ input_name input.Document = codes "document"
 -- the line of an input that is broken off: which input, then these words, what is wrong, and the number of the line
 abbrev pub fault_line : Input → List ℕ → DocFault → List ℕ
 fault_line input between fault =
-    codes "error " ++ input_name input ++ between ++ faults.name_of fault.which ++ codes " line " ++ decimal fault.line ++ 10 ∷ []
+    codes "error " ++ input_name input ++ between ++ faults.fault_name fault.which ++ codes " line " ++ decimal fault.line ++ 10 ∷ []
 
 -- the line on the diagnostic output
 abbrev pub diagnostic_of : Status → List ℕ

@@ -12,7 +12,7 @@ pub record Says (line : List ℕ) (old new : Seen) : Type 0 where
       × (IsTrue new.shown → new.written out.Diagnostic ≡ old.written out.Diagnostic ++ said)
 
 -- The diagnostic output is as before.
-pub record IsQuiet (old new : Seen) : Type 0 where
+pub record IsSilent (old new : Seen) : Type 0 where
   pub known : StaysKnown old new
   pub write_faults : new.write_faults out.Diagnostic ≡ old.write_faults out.Diagnostic
   pub written_length : IsTrue new.told → new.written_length out.Diagnostic ≡ old.written_length out.Diagnostic

@@ -1,8 +1,8 @@
 // How a call of the program ended.
 ghost use Rattle.std.specs.Prelude.{◌≡◌, ◌+◌, ◌≤◌, ◌++◌, length};
 ghost use Rattle.arrayvec.specs.ArrayVec.{array_vec_len};
-ghost use Rattle.sx_reading.specs.Answers.{number_of, diagnostic_of, static_line, dynamic_line, fault_line};
-ghost use Rattle.sx_reading.specs.Answers.{input_name};
+ghost use Rattle.sx_reading.specs.Answers.{status_number, diagnostic_of, static_line, dynamic_line};
+ghost use Rattle.sx_reading.specs.Answers.{fault_line, input_name};
 
 use arrayvec::ArrayVec;
 use itoa::Buffer;
@@ -140,7 +140,7 @@ fn broken_off(input: Input, between: &[u8], fault: DocFault) -> DiagnosticLine
 impl Status {
     /// The exit status of the program.
     pub fn number(&self) -> u8
-        ensures { result ≡ number_of self.now }
+        ensures { result ≡ status_number self.now }
     {
         match self {
             Status::Ok => 0,

@@ -3,7 +3,7 @@ use Rattle.std.proofs.Common.{◌≡◌, ◌<◌, ◌≤◌, ℕ, suc, List, ◌
 use Rattle.std.proofs.lemmas.List.{take-append-drop, take-take}
 use Rattle.std.proofs.Math.Nat.{eq-or-lt_of_le}
 use Rattle.sx_sheet.specs.Tokens.{Token, LinedToken}
-use Rattle.sx_sheet.specs.Syntax.{IsThin, BeginsThin, BreaksBehind, BreaksOn, tokens_in, lines_in}
+use Rattle.sx_sheet.specs.Syntax.{IsThin, BeginsThin, BreaksAfter, BreaksOn, tokens_in, lines_in}
 
 -- the first tokens of a thin stylesheet begin one
 first_begin : (tokens : List Token) (n : ℕ) → IsThin tokens → BeginsThin (take n tokens)
@@ -22,10 +22,10 @@ broken_or_thin lined line b t =
       | inr l ↦ b.breaks.here l (first_begin (tokens_in lined) (suc b.before) t)
     ]
 
-not_earlier : (tokens : List Token) (a b : ℕ) → BreaksBehind tokens a → BreaksBehind tokens b → a < b → ⊥
+not_earlier : (tokens : List Token) (a b : ℕ) → BreaksAfter tokens a → BreaksAfter tokens b → a < b → ⊥
 not_earlier tokens a b f g l = f.here (omega (arith, l, g.within)) (fewer_begin tokens (suc a) b (omega (arith, l)) g.begins)
 
-pub one_break : (tokens : List Token) (a b : ℕ) → BreaksBehind tokens a → BreaksBehind tokens b → a ≡ b
+pub one_break : (tokens : List Token) (a b : ℕ) → BreaksAfter tokens a → BreaksAfter tokens b → a ≡ b
 one_break tokens a b f g = grind (arith, not_earlier tokens a b f g, not_earlier tokens b a g f)
 
 pub one_line : (lined : List LinedToken) (a b : ℕ) → BreaksOn lined a → BreaksOn lined b → a ≡ b

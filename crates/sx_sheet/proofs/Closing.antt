@@ -7,9 +7,9 @@ use Rattle.std.proofs.lemmas.List.Folds.{list_all-append}
 use Rattle.sx_tree.specs.declared.events.Event.TheVariants as event
 use Rattle.sx_named.specs.Named.{named}
 use Rattle.sx_sheet.specs.declared.reading.LinedEvent.{LinedEvent}
-use Rattle.sx_sheet.specs.Tokens.{Token, starts_sheet, starts_mode, starts_template, starts_literal, starts_text, starts_apply, ends, says, closes, strange, LinedToken, token_of, is_blank, is_in_text, put_said, tokens_of, tokens_from}
+use Rattle.sx_sheet.specs.Tokens.{Token, starts_sheet, starts_mode, starts_template, starts_literal, starts_text, starts_apply, ends, says, closes, strange, LinedToken, token_of, is_blank_token, is_in_text, put_said, tokens_of, tokens_from}
 use Rattle.sx_sheet.proofs.Told.{are_both}
-use Rattle.sx_sheet.specs.Syntax.{Body, nil, literal, words, apply, TemplateSyntax, SheetSyntax, said, tokens_of_body, tokens_of_templates, tokens_of_sheet, IsThin, BeginsThin, BreaksBehind, BreaksOn, IsClosed, tokens_in, lines_in}
+use Rattle.sx_sheet.specs.Syntax.{ThinBody, nil, literal, words, apply, TemplateSyntax, SheetSyntax, said, tokens_of_body, tokens_of_templates, tokens_of_sheet, IsThin, BeginsThin, BreaksAfter, BreaksOn, IsClosed, tokens_in, lines_in}
 use Rattle.sx_names.specs.Numbering.{NameTable}
 
 -- whether it is not the end of the input
@@ -32,7 +32,7 @@ said_go_on : (s : List ℕ) → list_all goes_on (said s) ≡ true
 said_go_on [] = refl
 said_go_on (c ∷ s) = refl
 
-body_goes_on : (b : Body) → list_all goes_on (tokens_of_body b) ≡ true
+body_goes_on : (b : ThinBody) → list_all goes_on (tokens_of_body b) ≡ true
 body_goes_on nil = refl
 body_goes_on (literal name b rest) = both_go_on (tokens_of_body b) (ends ∷ tokens_of_body rest) (body_goes_on b) (body_goes_on rest)
 body_goes_on (words s rest) = both_go_on (said s) (ends ∷ tokens_of_body rest) (said_go_on s) (body_goes_on rest)
@@ -79,7 +79,7 @@ begun_is_thin tokens c b =
     let none : b.more ≡ [] = nothing_follows c.front b.more (front_of s) (front_goes_on s) (sym e ∙ front_and_last s) in
     record { syntax = s; written = b.thin.written ∙ ap (λ (l : List Token). tokens ++ l) none ∙ append-nil tokens }
 
-not_behind_all : (tokens : List Token) (n : ℕ) → IsClosed tokens → BreaksBehind tokens n → n ≡ length tokens → ⊥
+not_behind_all : (tokens : List Token) (n : ℕ) → IsClosed tokens → BreaksAfter tokens n → n ≡ length tokens → ⊥
 not_behind_all tokens n c b e =
     let all : take n tokens ≡ tokens = take_all n tokens (omega (arith, e)) in
     b.at_end e (begun_is_thin tokens c (rw all at b.begins))
@@ -102,7 +102,7 @@ put_closed false t line rest c = record { front = t ∷ c.front; last = ap (λ (
 
 said_closed : (b : Bool) (o : Option Token) (line : ℕ) (rest : Bool → List LinedToken) → ((a : Bool) → IsClosed (tokens_in (rest a))) → IsClosed (tokens_in (put_said b o line rest))
 said_closed b None line rest c = c b
-said_closed b (Some t) line rest c = put_closed (is_blank t && not b) t line (rest (is_in_text b t)) (c (is_in_text b t))
+said_closed b (Some t) line rest c = put_closed (is_blank_token t && not b) t line (rest (is_in_text b t)) (c (is_in_text b t))
 
 closed_from : (known : NameTable) (events : List LinedEvent) (line : ℕ) (b : Bool) → IsClosed (tokens_in (tokens_from known (events ++ record { event = event.Close; line = line } ∷ []) b))
 closed_from known [] line b = record { front = []; last = refl }

@@ -13,11 +13,11 @@ use Rattle.sx_sheet.specs.declared.reading.LinedEvent.{LinedEvent}
 use Rattle.sx_sheet.specs.declared.reader.Reader.{Reader}
 use Rattle.sx_sheet.specs.declared.tokens.Token as code
 use Rattle.sx_sheet.specs.Shown.{shown}
-use Rattle.sx_sheet.specs.Tokens.{Token, starts_sheet, starts_mode, starts_template, starts_literal, starts_text, starts_apply, ends, says, closes, strange, LinedToken, token_of, is_blank, is_in_text, tokens_from, tokens_of, AreKnown}
+use Rattle.sx_sheet.specs.Tokens.{Token, starts_sheet, starts_mode, starts_template, starts_literal, starts_text, starts_apply, ends, says, closes, strange, LinedToken, token_of, is_blank_token, is_in_text, tokens_from, tokens_of, AreKnownEvents}
 use Rattle.sx_sheet.specs.Syntax.{tokens_in, lines_in}
-use Rattle.sx_sheet.specs.Machine.{State, state_of, step, is_last}
+use Rattle.sx_sheet.specs.Machine.{SheetState, state_of_reader, next_state, is_last}
 use Rattle.sx_sheet.proofs.Told.{are_both}
-use Rattle.sx_sheet.specs.Looking.{Gives, course, Comes, Results}
+use Rattle.sx_sheet.specs.Looking.{GivesNumbers, course_through, ComesTo, Results}
 
 abbrev Table : Type 0
 Table = NameTable
@@ -39,7 +39,7 @@ module _ (known names : Table) (kept : KeepsPlaces known names) where
   same_event (event.Pi target content) h = refl
   same_event event.Close h = refl
 
-gives_old : (old new : Table) (look : Name → Option ℕ) → KeepsPlaces old new → Gives new look → Gives old look
+gives_old : (old new : Table) (look : Name → Option ℕ) → KeepsPlaces old new → GivesNumbers new look → GivesNumbers old look
 gives_old old new look kept g n name e = g n name (kept n (slice_get_within old n (name.uri, name.local) e) ∙ e)
 
 pub keeps_both : (a b c : Table) → KeepsPlaces a b → KeepsPlaces b c → KeepsPlaces a c
@@ -81,16 +81,16 @@ said_here known names e o t kept k h f = rw (sym (same_event known names kept e 
 pub record Here (known : Table) (events : List LinedEvent) (i : ℕ) (e : LinedEvent) (t : Token) : Type 0 where
   pub rest : drop i events ≡ e ∷ drop (i + 1) events
   pub said : token_of (named known e.event) ≡ Some t
-  pub known_later : AreKnown known (drop (i + 1) events)
+  pub known_later : AreKnownEvents known (drop (i + 1) events)
 
 pub here : (known names : Table) (events items : List LinedEvent) (i : ℕ) (e : LinedEvent) (o : Option code.Token) (t : code.Token) → items ≡ events → i < length items → e ≡ get_or items i e → KeepsPlaces known names →
-    AreKnown known (drop i events) → option_map (shown names) o ≡ token_of (named names e.event) → o ≡ Some t → Here known events i e (shown names t)
+    AreKnownEvents known (drop i events) → option_map (shown names) o ≡ token_of (named names e.event) → o ≡ Some t → Here known events i e (shown names t)
 here known names events items i e o t f g h kept k m n =
     let q : drop i events ≡ e ∷ drop (i + 1) events = rest_is events items i e f g h in
     let j = rw q at k in
     record { rest = q; said = said_here known names e.event o t kept j.0 m n; known_later = j.1 }
 
-blank_keeps : (t : Token) (b : Bool) → is_blank t ≡ true → is_in_text b t ≡ b
+blank_keeps : (t : Token) (b : Bool) → is_blank_token t ≡ true → is_in_text b t ≡ b
 blank_keeps starts_sheet b e = absurd cc
 blank_keeps (starts_mode m) b e = absurd cc
 blank_keeps (starts_template n) b e = absurd cc
@@ -110,30 +110,30 @@ module _ (known : Table) where
   nothing_said : (e : LinedEvent) (rest : List LinedEvent) (b : Bool) → token_of (named known e.event) ≡ None → tokens_from known (e ∷ rest) b ≡ tokens_from known rest b
   nothing_said e rest b h = rw h refl
 
-  skipped : (e : LinedEvent) (rest : List LinedEvent) (b : Bool) (t : Token) → token_of (named known e.event) ≡ Some t → is_blank t && not b ≡ true →
+  skipped : (e : LinedEvent) (rest : List LinedEvent) (b : Bool) (t : Token) → token_of (named known e.event) ≡ Some t → is_blank_token t && not b ≡ true →
       tokens_from known (e ∷ rest) b ≡ tokens_from known rest b
-  skipped e rest b t h k = rw h (rw k (rw (blank_keeps t b (are_both (is_blank t) (not b) k).0) refl))
+  skipped e rest b t h k = rw h (rw k (rw (blank_keeps t b (are_both (is_blank_token t) (not b) k).0) refl))
 
-  counted : (e : LinedEvent) (rest : List LinedEvent) (b : Bool) (t : Token) → token_of (named known e.event) ≡ Some t → is_blank t && not b ≡ false →
+  counted : (e : LinedEvent) (rest : List LinedEvent) (b : Bool) (t : Token) → token_of (named known e.event) ≡ Some t → is_blank_token t && not b ≡ false →
       tokens_from known (e ∷ rest) b ≡ lined t e.line ∷ tokens_from known rest (is_in_text b t)
   counted e rest b t h k = rw h (rw k refl)
 
   comes_over : (names : Table) (events : List LinedEvent) (e : LinedEvent) (rest : List LinedEvent) (b : Bool) (r : Reader) → tokens_from known (e ∷ rest) b ≡ tokens_from known rest b →
-      Comes known names events (e ∷ rest) b r → Comes known names events rest b r
+      ComesTo known names events (e ∷ rest) b r → ComesTo known names events rest b r
   comes_over names events e rest b r f c = record { tokens = c.tokens; lines = rw (sym f) c.lines; course = λ look g. rw (sym f) (c.course look g) }
 
-  next_course : (lines : List ℕ) (look : Name → Option ℕ) (s n : State) (k line : ℕ) (t : Token) (ts : List Token) → slice_index_or lines s.place.tokens 0 ≡ line → Some n ≡ step look line s t →
-      course lines look n (k + 1) ts ≡ course lines look s k (t ∷ ts)
+  next_course : (lines : List ℕ) (look : Name → Option ℕ) (s n : SheetState) (k line : ℕ) (t : Token) (ts : List Token) → slice_index_or lines s.place.tokens 0 ≡ line → Some n ≡ next_state look line s t →
+      course_through lines look n (k + 1) ts ≡ course_through lines look s k (t ∷ ts)
   next_course lines look s n k line t ts h e = rw h (rw (sym e) (rw (add-one k) refl))
 
-  last_course : (lines : List ℕ) (look : Name → Option ℕ) (s : State) (k line : ℕ) (t : Token) (ts : List Token) → slice_index_or lines s.place.tokens 0 ≡ line → None ≡ step look line s t → slice_index_or lines k 0 ≡ line →
-      Err line ≡ course lines look s k (t ∷ ts)
+  last_course : (lines : List ℕ) (look : Name → Option ℕ) (s : SheetState) (k line : ℕ) (t : Token) (ts : List Token) → slice_index_or lines s.place.tokens 0 ≡ line → None ≡ next_state look line s t → slice_index_or lines k 0 ≡ line →
+      Err line ≡ course_through lines look s k (t ∷ ts)
   last_course lines look s k line t ts h e f = rw h (rw (sym e) (rw f refl))
 
   comes_on : (names later : Table) (events : List LinedEvent) (e : LinedEvent) (rest : List LinedEvent) (b a : Bool) (r n : Reader) (t : Token) → KeepsPlaces names later →
       tokens_from known (e ∷ rest) b ≡ lined t e.line ∷ tokens_from known rest a →
-      ((look : Name → Option ℕ) (tokens : ℕ) → Gives later look → Some (state_of (tokens + 1) n) ≡ step look e.line (state_of tokens r) t) →
-      Comes known names events (e ∷ rest) b r → Comes known later events rest a n
+      ((look : Name → Option ℕ) (tokens : ℕ) → GivesNumbers later look → Some (state_of_reader (tokens + 1) n) ≡ next_state look e.line (state_of_reader tokens r) t) →
+      ComesTo known names events (e ∷ rest) b r → ComesTo known later events rest a n
   comes_on names later events e rest b a r n t kept f g c =
       let lines : List ℕ = lines_in (tokens_of known events) in
       let ts : List LinedToken = tokens_from known rest a in
@@ -142,15 +142,15 @@ module _ (known : Table) where
         tokens = c.tokens + 1;
         lines = next_rest c.tokens lines e.line (lines_in ts) d;
         course = λ look h.
-            next_course lines look (state_of c.tokens r) (state_of (c.tokens + 1) n) c.tokens e.line t (tokens_in ts) (first_rest c.tokens lines e.line (lines_in ts) d) (g look c.tokens h)
-            ∙ ap (λ (x : List LinedToken). course lines look (state_of c.tokens r) c.tokens (tokens_in x)) (sym f)
+            next_course lines look (state_of_reader c.tokens r) (state_of_reader (c.tokens + 1) n) c.tokens e.line t (tokens_in ts) (first_rest c.tokens lines e.line (lines_in ts) d) (g look c.tokens h)
+            ∙ ap (λ (x : List LinedToken). course_through lines look (state_of_reader c.tokens r) c.tokens (tokens_in x)) (sym f)
             ∙ c.course look (gives_old names later look kept h);
       }
 
   stops_there : (names later : Table) (events : List LinedEvent) (e : LinedEvent) (rest : List LinedEvent) (b a : Bool) (r : Reader) (t : Token) → KeepsPlaces names later →
       tokens_from known (e ∷ rest) b ≡ lined t e.line ∷ tokens_from known rest a →
-      ((look : Name → Option ℕ) (tokens : ℕ) → Gives later look → None ≡ step look e.line (state_of tokens r) t) →
-      Comes known names events (e ∷ rest) b r → Results known later events (Err e.line)
+      ((look : Name → Option ℕ) (tokens : ℕ) → GivesNumbers later look → None ≡ next_state look e.line (state_of_reader tokens r) t) →
+      ComesTo known names events (e ∷ rest) b r → Results known later events (Err e.line)
   stops_there names later events e rest b a r t kept f g c =
       let lines : List ℕ = lines_in (tokens_of known events) in
       let ts : List LinedToken = tokens_from known rest a in
@@ -159,36 +159,36 @@ module _ (known : Table) where
       record {
         tokens = c.tokens;
         course = λ look h.
-            last_course lines look (state_of c.tokens r) c.tokens e.line t (tokens_in ts) first (g look c.tokens h) first
-            ∙ ap (λ (x : List LinedToken). course lines look (state_of c.tokens r) c.tokens (tokens_in x)) (sym f)
+            last_course lines look (state_of_reader c.tokens r) c.tokens e.line t (tokens_in ts) first (g look c.tokens h) first
+            ∙ ap (λ (x : List LinedToken). course_through lines look (state_of_reader c.tokens r) c.tokens (tokens_in x)) (sym f)
             ∙ c.course look (gives_old names later look kept h);
       }
 
   -- ---- and so on, from what stands at a place
 
-  pub passes : (names : Table) (events : List LinedEvent) (i : ℕ) (e : LinedEvent) (b : Bool) (r : Reader) (t : Token) → Here known events i e t → true ≡ (is_blank t && not b) →
-      Comes known names events (drop i events) b r → Comes known names events (drop (i + 1) events) b r
+  pub passes : (names : Table) (events : List LinedEvent) (i : ℕ) (e : LinedEvent) (b : Bool) (r : Reader) (t : Token) → Here known events i e t → true ≡ (is_blank_token t && not b) →
+      ComesTo known names events (drop i events) b r → ComesTo known names events (drop (i + 1) events) b r
   passes names events i e b r t h k c =
       comes_over names events e (drop (i + 1) events) b r (skipped e (drop (i + 1) events) b t h.said (sym k)) (rw (sym h.rest) c)
 
-  pub goes : (names later : Table) (events : List LinedEvent) (i : ℕ) (e : LinedEvent) (b a : Bool) (r n : Reader) (t : Token) → Here known events i e t → false ≡ (is_blank t && not b) → a ≡ is_in_text b t → KeepsPlaces names later →
-      ((look : Name → Option ℕ) (tokens : ℕ) → Gives later look → Some (state_of (tokens + 1) n) ≡ step look e.line (state_of tokens r) t) →
-      Comes known names events (drop i events) b r → Comes known later events (drop (i + 1) events) a n
+  pub goes : (names later : Table) (events : List LinedEvent) (i : ℕ) (e : LinedEvent) (b a : Bool) (r n : Reader) (t : Token) → Here known events i e t → false ≡ (is_blank_token t && not b) → a ≡ is_in_text b t → KeepsPlaces names later →
+      ((look : Name → Option ℕ) (tokens : ℕ) → GivesNumbers later look → Some (state_of_reader (tokens + 1) n) ≡ next_state look e.line (state_of_reader tokens r) t) →
+      ComesTo known names events (drop i events) b r → ComesTo known later events (drop (i + 1) events) a n
   goes names later events i e b a r n t h k j kept f c =
       comes_on names later events e (drop (i + 1) events) b a r n t kept (rw j (counted e (drop (i + 1) events) b t h.said (sym k))) f (rw (sym h.rest) c)
 
-  pub stops : (names later : Table) (events : List LinedEvent) (i : ℕ) (e : LinedEvent) (b : Bool) (r : Reader) (t : Token) → Here known events i e t → false ≡ (is_blank t && not b) → KeepsPlaces names later →
-      ((look : Name → Option ℕ) (tokens : ℕ) → Gives later look → None ≡ step look e.line (state_of tokens r) t) →
-      Comes known names events (drop i events) b r → Results known later events (Err e.line)
+  pub stops : (names later : Table) (events : List LinedEvent) (i : ℕ) (e : LinedEvent) (b : Bool) (r : Reader) (t : Token) → Here known events i e t → false ≡ (is_blank_token t && not b) → KeepsPlaces names later →
+      ((look : Name → Option ℕ) (tokens : ℕ) → GivesNumbers later look → None ≡ next_state look e.line (state_of_reader tokens r) t) →
+      ComesTo known names events (drop i events) b r → Results known later events (Err e.line)
   stops names later events i e b r t h k kept f c =
       stops_there names later events e (drop (i + 1) events) b (is_in_text b t) r t kept (counted e (drop (i + 1) events) b t h.said (sym k)) f (rw (sym h.rest) c)
 
-  pub ends_well : (names : Table) (events items : List LinedEvent) (i : ℕ) (b : Bool) (r : Reader) → items ≡ events → length items ≤ i → true ≡ is_last r.stage → Comes known names events (drop i events) b r → Results known names events (Ok r)
+  pub ends_well : (names : Table) (events items : List LinedEvent) (i : ℕ) (b : Bool) (r : Reader) → items ≡ events → length items ≤ i → true ≡ is_last r.stage → ComesTo known names events (drop i events) b r → Results known names events (Ok r)
   ends_well names events items i b r f h e c =
       let end : drop i events ≡ [] = no_more events items i f h in
       record { tokens = c.tokens; course = λ look g. (let x = rw end at (c.course look g) in rw (sym e) at x) }
 
-  pub ends_early : (names : Table) (events items : List LinedEvent) (i : ℕ) (b : Bool) (r : Reader) → items ≡ events → length items ≤ i → false ≡ is_last r.stage → Comes known names events (drop i events) b r → Results known names events (Err 0)
+  pub ends_early : (names : Table) (events items : List LinedEvent) (i : ℕ) (b : Bool) (r : Reader) → items ≡ events → length items ≤ i → false ≡ is_last r.stage → ComesTo known names events (drop i events) b r → Results known names events (Err 0)
   ends_early names events items i b r f h e c =
       let end : drop i events ≡ [] = no_more events items i f h in
       let none : drop c.tokens (lines_in (tokens_of known events)) ≡ [] = c.lines ∙ ap (λ (rest : List LinedEvent). lines_in (tokens_from known rest b)) end in

@@ -4,10 +4,10 @@ use Rattle.sx_kinds.specs.declared.sheets.OnNoMatch.{OnNoMatch}
 use Rattle.sx_kinds.specs.declared.sheets.OnNoMatch.TheVariants.{TextOnlyCopy}
 use Rattle.sx_named.specs.Named.{Name}
 use Rattle.sx_sheet.specs.Tokens.{Token, starts_sheet, starts_mode, starts_template, starts_literal, starts_text, starts_apply, ends, says, closes}
-use Rattle.sx_sheet.specs.Syntax.{Body, nil, literal, words, apply, TemplateSyntax, SheetSyntax, tokens_of_body, tokens_of_templates, tokens_of_sheet, BeginsThin}
+use Rattle.sx_sheet.specs.Syntax.{ThinBody, nil, literal, words, apply, TemplateSyntax, SheetSyntax, tokens_of_body, tokens_of_templates, tokens_of_sheet, BeginsThin}
 use Rattle.sx_sheet.specs.Numbers.{line_at}
-use Rattle.sx_sheet.specs.Machine.{State, step, run, and_then, is_last}
-use Rattle.sx_sheet.specs.Looking.{course, goes_on}
+use Rattle.sx_sheet.specs.Machine.{SheetState, next_state, run_states, then_state, is_last}
+use Rattle.sx_sheet.specs.Looking.{course_through, goes_on_with}
 use Rattle.sx_sheet.proofs.Bodies.{join, tokens-join, templates_tokens-snoc}
 use Rattle.sx_sheet.proofs.Parts.{Level, Inner, Part, nothing, begun, moded, between, within, texting, texted, applied, ended, closed, head, tokens_of, inner_tokens, outer_tokens, shows, Good}
 use Rattle.sx_sheet.proofs.Goes as going
@@ -33,19 +33,19 @@ ended_begins m ts = shorter (tokens_of (ended m ts)) (closes ∷ []) (tokens_of 
 between_begins : (m : OnNoMatch) (ts : List TemplateSyntax) → BeginsThin (tokens_of (between m ts))
 between_begins m ts = shorter (tokens_of (between m ts)) (ends ∷ []) (tokens_of (ended m ts)) refl (ended_begins m ts)
 
-within_begins : (m : OnNoMatch) (ts : List TemplateSyntax) (name : List ℕ) (outer : List Level) (b : Body) → BeginsThin (inner_tokens (record { no_match = m; done = ts; name = name; outer = outer; body = b }))
+within_begins : (m : OnNoMatch) (ts : List TemplateSyntax) (name : List ℕ) (outer : List Level) (b : ThinBody) → BeginsThin (inner_tokens (record { no_match = m; done = ts; name = name; outer = outer; body = b }))
 within_begins m ts name [] b =
     let s : TemplateSyntax = record { name = name; body = b } in
     shorter (inner_tokens (record { no_match = m; done = ts; name = name; outer = []; body = b })) (ends ∷ []) (tokens_of (between m (ts ++ s ∷ [])))
     (end_tokens (head m) (tokens_of_templates ts) (starts_template name) ends (tokens_of_body b) _ (templates_tokens-snoc ts s))
     (between_begins m (ts ++ s ∷ []))
 within_begins m ts name (l ∷ ls) b =
-    let c : Body = literal l.name b nil in
+    let c : ThinBody = literal l.name b nil in
     shorter (inner_tokens (record { no_match = m; done = ts; name = name; outer = l ∷ ls; body = b })) (ends ∷ []) (inner_tokens (record { no_match = m; done = ts; name = name; outer = ls; body = join l.before c }))
     (close_tokens (head m ++ tokens_of_templates ts) (outer_tokens ls) (starts_template name) (starts_literal l.name) ends (tokens_of_body l.before) (tokens_of_body b) _ (tokens-join l.before c))
     (within_begins m ts name ls (join l.before c))
 
-grown_begins : (i : Inner) (c : Body) (xs : List Token) (t : Token) → inner_tokens i ++ tokens_of_body c ≡ xs ++ t ∷ [] → BeginsThin xs
+grown_begins : (i : Inner) (c : ThinBody) (xs : List Token) (t : Token) → inner_tokens i ++ tokens_of_body c ≡ xs ++ t ∷ [] → BeginsThin xs
 grown_begins i c xs t e =
     shorter xs (t ∷ []) (inner_tokens (record { no_match = i.no_match; done = i.done; name = i.name; outer = i.outer; body = join i.body c }))
     (behind_join (head i.no_match ++ tokens_of_templates i.done) (outer_tokens i.outer) (starts_template i.name) (tokens_of_body i.body) _ (tokens_of_body c) (tokens-join i.body c) ∙ e)
@@ -66,50 +66,50 @@ begins_part (closed m ts) = closed_begins m ts
 -- ---- reading many tokens
 
 module _ (lines : List ℕ) (look : Name → Option ℕ) (nm : Name → ℕ) (N : Name → Type 0) (found : (name : Name) (n : ℕ) → look name ≡ Some n → (nm name ≡ n) × N name) where
-  pub record IsRead (p : Part) (tokens : List Token) (s : State) : Type 0 where
+  pub record IsRead (p : Part) (tokens : List Token) (s : SheetState) : Type 0 where
     pub part : Part
     pub is_shown : shows lines nm part ≡ s
     pub taken : tokens_of part ≡ tokens_of p ++ tokens
     pub good : Good N part
 
-  one_more : (p : Part) (t : Token) (tokens : List Token) (s : State) (o : Option State) → going.Goes lines look nm N found p t o →
-      ((q : Part) → Good N q → run lines look (shows lines nm q) tokens ≡ Some s → IsRead q tokens s) → and_then o (λ next. run lines look next tokens) ≡ Some s → IsRead p (t ∷ tokens) s
+  one_more : (p : Part) (t : Token) (tokens : List Token) (s : SheetState) (o : Option SheetState) → going.Goes lines look nm N found p t o →
+      ((q : Part) → Good N q → run_states lines look (shows lines nm q) tokens ≡ Some s → IsRead q tokens s) → then_state o (λ next. run_states lines look next tokens) ≡ Some s → IsRead p (t ∷ tokens) s
   one_more p t tokens s None g f e = absurd cc
   one_more p t tokens s (Some n) g f e =
-      let r = f g.part g.good (ap (λ (x : State). run lines look x tokens) g.is_shown ∙ e) in
+      let r = f g.part g.good (ap (λ (x : SheetState). run_states lines look x tokens) g.is_shown ∙ e) in
       record { part = r.part; is_shown = r.is_shown; taken = r.taken ∙ ap (λ (x : List Token). x ++ tokens) g.tokens ∙ append_assoc (tokens_of p) (t ∷ []) tokens; good = r.good }
 
-  some_same : (a b : State) → Some a ≡ Some b → a ≡ b
+  some_same : (a b : SheetState) → Some a ≡ Some b → a ≡ b
   some_same a b e = cc
 
-  pub reads : (tokens : List Token) (p : Part) (s : State) → Good N p → run lines look (shows lines nm p) tokens ≡ Some s → IsRead p tokens s
+  pub reads : (tokens : List Token) (p : Part) (s : SheetState) → Good N p → run_states lines look (shows lines nm p) tokens ≡ Some s → IsRead p tokens s
   reads [] p s g e = record { part = p; is_shown = some_same (shows lines nm p) s e; taken = sym (append-nil (tokens_of p)); good = g }
   reads (t ∷ tokens) p s g e =
-      one_more p t tokens s (step look (line_at lines (shows lines nm p).place) (shows lines nm p) t) (going.goes lines look nm N found p t g) (λ q h f. reads tokens q s h f) e
+      one_more p t tokens s (next_state look (line_at lines (shows lines nm p).place) (shows lines nm p) t) (going.goes lines look nm N found p t g) (λ q h f. reads tokens q s h f) e
 
--- ---- the course of reading
+-- ---- the course_through of reading
 
 module _ (lines : List ℕ) (look : Name → Option ℕ) where
   -- reading stops behind i tokens
-  pub record Stops (s : State) (tokens : List Token) (i : ℕ) : Type 0 where
+  pub record Stops (s : SheetState) (tokens : List Token) (i : ℕ) : Type 0 where
     pub within : i ≤ length tokens
-    pub last : State
-    pub reaches : run lines look s (take i tokens) ≡ Some last
-    pub here : i < length tokens → (more : List Token) → run lines look s (take (suc i) tokens ++ more) ≡ None
-    pub at_end : i ≡ length tokens → (run lines look s tokens ≡ Some last) × (is_last last.stage ≡ false)
+    pub last : SheetState
+    pub reaches : run_states lines look s (take i tokens) ≡ Some last
+    pub here : i < length tokens → (more : List Token) → run_states lines look s (take (suc i) tokens ++ more) ≡ None
+    pub at_end : i ≡ length tokens → (run_states lines look s tokens ≡ Some last) × (is_last last.stage ≡ false)
 
-  abbrev pub Outcome : State → ℕ → List Token → Result State ℕ → Type 0
-  Outcome s k tokens (Ok e) = (run lines look s tokens ≡ Some e) × (is_last e.stage ≡ true)
+  abbrev pub Outcome : SheetState → ℕ → List Token → Result SheetState ℕ → Type 0
+  Outcome s k tokens (Ok e) = (run_states lines look s tokens ≡ Some e) × (is_last e.stage ≡ true)
   Outcome s k tokens (Err j) = (i : ℕ) × (j ≡ slice_index_or lines (k + i) 0) × Stops s tokens i
 
   no_more : (k : ℕ) → slice_index_or lines k 0 ≡ slice_index_or lines (k + 0) 0
   no_more k = ap (λ (n : ℕ). slice_index_or lines n 0) (omega arith)
 
-  finished : (b : Bool) (s : State) (k : ℕ) → is_last s.stage ≡ b → Outcome s k [] (if b then Ok s else Err (slice_index_or lines k 0))
+  finished : (b : Bool) (s : SheetState) (k : ℕ) → is_last s.stage ≡ b → Outcome s k [] (if b then Ok s else Err (slice_index_or lines k 0))
   finished true s k e = (refl, e)
   finished false s k e = (0, no_more k, record { within = omega arith; last = s; reaches = refl; here = λ l more. absurd (omega (arith, l)); at_end = λ _. (refl, e) })
 
-  later : (s n : State) (t : Token) (tokens : List Token) (k : ℕ) (r : Result State ℕ) → step look (line_at lines s.place) s t ≡ Some n → Outcome n (suc k) tokens r → Outcome s k (t ∷ tokens) r
+  later : (s n : SheetState) (t : Token) (tokens : List Token) (k : ℕ) (r : Result SheetState ℕ) → next_state look (line_at lines s.place) s t ≡ Some n → Outcome n (suc k) tokens r → Outcome s k (t ∷ tokens) r
   later s n t tokens k (Ok e) f o = (rw f o.0, o.1)
   later s n t tokens k (Err j) f o = (
     suc o.0,
@@ -123,11 +123,11 @@ module _ (lines : List ℕ) (look : Name → Option ℕ) where
     },
   )
 
-  turn : (o : Option State) (s : State) (t : Token) (tokens : List Token) (k : ℕ) → step look (line_at lines s.place) s t ≡ o →
-      ((n : State) → Outcome n (suc k) tokens (course lines look n (suc k) tokens)) → Outcome s k (t ∷ tokens) (goes_on lines k o (λ next. course lines look next (suc k) tokens))
+  turn : (o : Option SheetState) (s : SheetState) (t : Token) (tokens : List Token) (k : ℕ) → next_state look (line_at lines s.place) s t ≡ o →
+      ((n : SheetState) → Outcome n (suc k) tokens (course_through lines look n (suc k) tokens)) → Outcome s k (t ∷ tokens) (goes_on_with lines k o (λ next. course_through lines look next (suc k) tokens))
   turn None s t tokens k e f = (0, no_more k, record { within = omega arith; last = s; reaches = refl; here = λ l more. rw e refl; at_end = λ l. absurd (omega (arith, l)) })
-  turn (Some n) s t tokens k e f = later s n t tokens k (course lines look n (suc k) tokens) e (f n)
+  turn (Some n) s t tokens k e f = later s n t tokens k (course_through lines look n (suc k) tokens) e (f n)
 
-  pub outcome : (tokens : List Token) (s : State) (k : ℕ) → Outcome s k tokens (course lines look s k tokens)
+  pub outcome : (tokens : List Token) (s : SheetState) (k : ℕ) → Outcome s k tokens (course_through lines look s k tokens)
   outcome [] s k = finished (is_last s.stage) s k refl
-  outcome (t ∷ tokens) s k = turn (step look (line_at lines s.place) s t) s t tokens k refl (λ n. outcome tokens n (suc k))
+  outcome (t ∷ tokens) s k = turn (next_state look (line_at lines s.place) s t) s t tokens k refl (λ n. outcome tokens n (suc k))

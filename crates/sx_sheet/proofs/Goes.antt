@@ -9,14 +9,14 @@ use Rattle.sx_sheet.specs.declared.reader.Frame.{Frame}
 use Rattle.sx_sheet.specs.declared.stages.Stage.{Stage}
 use Rattle.sx_sheet.specs.declared.stages.Stage.TheVariants as stage
 use Rattle.sx_sheet.specs.Tokens.{Token, starts_sheet, starts_mode, starts_template, starts_literal, starts_text, starts_apply, ends, says, closes}
-use Rattle.sx_sheet.specs.Syntax.{Body, nil, literal, words, apply, TemplateSyntax, tokens_of_body, tokens_of_templates}
-use Rattle.sx_sheet.specs.Numbers.{Place, entered, past, past_head, line_at, next_construct, instrs_of, templates_of, plain, AllBody, AllTemplates}
+use Rattle.sx_sheet.specs.Syntax.{ThinBody, nil, literal, words, apply, TemplateSyntax, tokens_of_body, tokens_of_templates}
+use Rattle.sx_sheet.specs.Numbers.{NumberPlace, place_entered, past, past_head, line_at, next_construct, instrs_of, templates_of, plain, AllBody, AllTemplates}
 use Rattle.sx_sheet.specs.Machine as machine
-use Rattle.sx_sheet.specs.Machine.{State, state, step, with_number, template_start, with_literal}
+use Rattle.sx_sheet.specs.Machine.{SheetState, state, next_state, state_with_number, template_start, with_literal}
 use Rattle.sx_sheet.proofs.Bodies.{join, past-join, instrs-join, tokens-join, all-join, past-snoc, templates-snoc, templates_tokens-snoc, all-snoc}
 use Rattle.sx_sheet.proofs.Parts.{Level, level, Inner, Part, nothing, begun, moded, between, within, texting, texted, applied, ended, closed, head, tokens_of, inner_tokens, outer_tokens, base, inside_of, body_start, here, frames, starting, read_so_far, shows, Good, GoodInner, GoodOuter}
 
-same_state : (g : Stage) (m : OnNoMatch) (ts : List Template) (fs : List Frame) (b c : List Instr) (p q : Place) → b ≡ c → p ≡ q → state g m ts fs b p ≡ state g m ts fs c q
+same_state : (g : Stage) (m : OnNoMatch) (ts : List Template) (fs : List Frame) (b c : List Instr) (p q : NumberPlace) → b ≡ c → p ≡ q → state g m ts fs b p ≡ state g m ts fs c q
 same_state g m ts fs b c p q e f = rw e (rw f refl)
 
 -- ---- lists, over variables
@@ -41,13 +41,13 @@ pub three_tokens : (i : List Token) (a b c : Token) → i ++ a ∷ b ∷ c ∷ [
 three_tokens i a b c = simp append_assoc
 
 module _ (lines : List ℕ) (look : Name → Option ℕ) (nm : Name → ℕ) (N : Name → Type 0) (found : (name : Name) (n : ℕ) → look name ≡ Some n → (nm name ≡ n) × N name) where
-  pub record Next (p : Part) (t : Token) (s : State) : Type 0 where
+  pub record Next (p : Part) (t : Token) (s : SheetState) : Type 0 where
     pub part : Part
     pub is_shown : shows lines nm part ≡ s
     pub tokens : tokens_of part ≡ tokens_of p ++ t ∷ []
     pub good : Good N part
 
-  abbrev pub Goes : Part → Token → Option State → Type 0
+  abbrev pub Goes : Part → Token → Option SheetState → Type 0
   Goes p t None = Unit {0}
   Goes p t (Some s) = Next p t s
 
@@ -55,13 +55,13 @@ module _ (lines : List ℕ) (look : Name → Option ℕ) (nm : Name → ℕ) (N 
 
   template_goes : (m : OnNoMatch) (ts : List TemplateSyntax) (name : List ℕ) (o : Option ℕ) → look (plain name) ≡ o → AllTemplates N ts →
       Goes (between m ts) (starts_template name)
-      (with_number o (λ n. state (stage.Body (template_start (line_at lines (base ts)) (base ts).constructs n)) m (templates_of lines nm past_head ts) [] [] (entered (base ts))))
+      (state_with_number o (λ n. state (stage.Body (template_start (line_at lines (base ts)) (base ts).constructs n)) m (templates_of lines nm past_head ts) [] [] (place_entered (base ts))))
   template_goes m ts name None e h = tt
   template_goes m ts name (Some n) e h =
       let k = found (plain name) n e in
       record {
         part = within (record { no_match = m; done = ts; name = name; outer = []; body = nil });
-        is_shown = ap (λ (x : ℕ). state (stage.Body (template_start (line_at lines (base ts)) (base ts).constructs x)) m (templates_of lines nm past_head ts) [] [] (entered (base ts))) k.0;
+        is_shown = ap (λ (x : ℕ). state (stage.Body (template_start (line_at lines (base ts)) (base ts).constructs x)) m (templates_of lines nm past_head ts) [] [] (place_entered (base ts))) k.0;
         tokens = append-nil ((head m ++ tokens_of_templates ts) ++ starts_template name ∷ []);
         good = (h, k.1, tt, tt);
       }
@@ -74,7 +74,7 @@ module _ (lines : List ℕ) (look : Name → Option ℕ) (nm : Name → ℕ) (N 
   -- ---- in a body
 
   start_goes : (i : Inner) (name : Name) (o : Option ℕ) → look name ≡ o → GoodInner N i →
-      Goes (within i) (starts_literal name) (with_number o (with_literal (line_at lines (here i)) (starting lines nm i) (shows lines nm (within i))))
+      Goes (within i) (starts_literal name) (state_with_number o (with_literal (line_at lines (here i)) (starting lines nm i) (shows lines nm (within i))))
   start_goes i name None e h = tt
   start_goes i name (Some n) e h =
       let k = found name n e in
@@ -85,9 +85,9 @@ module _ (lines : List ℕ) (look : Name → Option ℕ) (nm : Name → ℕ) (N 
         good = (h.0, h.1, (k.1, h.3, h.2), tt);
       }
 
-  end_goes : (m : OnNoMatch) (ts : List TemplateSyntax) (name : List ℕ) (outer : List Level) (b : Body) → AllTemplates N ts → N (plain name) → GoodOuter N outer → AllBody N b →
+  end_goes : (m : OnNoMatch) (ts : List TemplateSyntax) (name : List ℕ) (outer : List Level) (b : ThinBody) → AllTemplates N ts → N (plain name) → GoodOuter N outer → AllBody N b →
       let i : Inner = record { no_match = m; done = ts; name = name; outer = outer; body = b } in
-      Goes (within i) ends (Some (machine.end_innermost (starting lines nm i) (shows lines nm (within i)) (frames lines nm (entered (base ts)) outer)))
+      Goes (within i) ends (Some (machine.end_innermost (starting lines nm i) (shows lines nm (within i)) (frames lines nm (place_entered (base ts)) outer)))
   end_goes m ts name [] b t n o g =
       let s : TemplateSyntax = record { name = name; body = b } in
       record {
@@ -97,8 +97,8 @@ module _ (lines : List ℕ) (look : Name → Option ℕ) (nm : Name → ℕ) (N 
         good = all-snoc N ts s t n g;
       }
   end_goes m ts name (l ∷ ls) b t n o g =
-      let p0 : Place = entered (base ts) in
-      let c : Body = literal l.name b nil in
+      let p0 : NumberPlace = place_entered (base ts) in
+      let c : ThinBody = literal l.name b nil in
       let i : Inner = record { no_match = m; done = ts; name = name; outer = l ∷ ls; body = b } in
       record {
         part = within (record { no_match = m; done = ts; name = name; outer = ls; body = join l.before c });
@@ -107,7 +107,7 @@ module _ (lines : List ℕ) (look : Name → Option ℕ) (nm : Name → ℕ) (N 
         good = (t, n, o.2, all-join N l.before c o.1 (o.0, g, tt));
       }
 
-  inside_goes : (i : Inner) (t : Token) → GoodInner N i → Goes (within i) t (machine.inside look (line_at lines (here i)) (starting lines nm i) (shows lines nm (within i)) t)
+  inside_goes : (i : Inner) (t : Token) → GoodInner N i → Goes (within i) t (machine.inside_template look (line_at lines (here i)) (starting lines nm i) (shows lines nm (within i)) t)
   inside_goes i (starts_literal name) h = start_goes i name (look name) refl h
   inside_goes i starts_text h = record { part = texting i; is_shown = refl; tokens = refl; good = h }
   inside_goes i starts_apply h = record { part = applied i; is_shown = refl; tokens = refl; good = h }
@@ -116,12 +116,12 @@ module _ (lines : List ℕ) (look : Name → Option ℕ) (nm : Name → ℕ) (N 
 
   -- ---- in a text and behind it
 
-  grow_goes : (p : Part) (i : Inner) (c : Body) (t : Token) (is : List Instr) (q : Place) → GoodInner N i → AllBody N c → instrs_of lines nm (here i) c ≡ is → past (here i) c ≡ q →
+  grow_goes : (p : Part) (i : Inner) (c : ThinBody) (t : Token) (is : List Instr) (q : NumberPlace) → GoodInner N i → AllBody N c → instrs_of lines nm (here i) c ≡ is → past (here i) c ≡ q →
       inner_tokens i ++ tokens_of_body c ≡ tokens_of p ++ t ∷ [] →
-      Next p t (state (stage.Body (starting lines nm i)) i.no_match (templates_of lines nm past_head i.done) (frames lines nm (entered (base i.done)) i.outer) (read_so_far lines nm i ++ is) q)
+      Next p t (state (stage.Body (starting lines nm i)) i.no_match (templates_of lines nm past_head i.done) (frames lines nm (place_entered (base i.done)) i.outer) (read_so_far lines nm i ++ is) q)
   grow_goes p i c t is q h a f g k = record {
     part = within (record { no_match = i.no_match; done = i.done; name = i.name; outer = i.outer; body = join i.body c });
-    is_shown = same_state (stage.Body (starting lines nm i)) i.no_match (templates_of lines nm past_head i.done) (frames lines nm (entered (base i.done)) i.outer) _ _ _ _
+    is_shown = same_state (stage.Body (starting lines nm i)) i.no_match (templates_of lines nm past_head i.done) (frames lines nm (place_entered (base i.done)) i.outer) _ _ _ _
         (instrs-join lines nm i.body c (body_start i) ∙ ap (λ (x : List Instr). read_so_far lines nm i ++ x) f)
         (past-join i.body c (body_start i) ∙ g);
     tokens = behind_join (head i.no_match ++ tokens_of_templates i.done) (outer_tokens i.outer) (starts_template i.name) (tokens_of_body i.body) _ (tokens_of_body c) (tokens-join i.body c) ∙ k;
@@ -163,7 +163,7 @@ module _ (lines : List ℕ) (look : Name → Option ℕ) (nm : Name → ℕ) (N 
   closed_goes : (m : OnNoMatch) (ts : List TemplateSyntax) (t : Token) → Goes (closed m ts) t (machine.fixed stage.End (shows lines nm (closed m ts)) t)
   closed_goes m ts t = tt
 
-  pub goes : (p : Part) (t : Token) → Good N p → Goes p t (step look (line_at lines (shows lines nm p).place) (shows lines nm p) t)
+  pub goes : (p : Part) (t : Token) → Good N p → Goes p t (next_state look (line_at lines (shows lines nm p).place) (shows lines nm p) t)
   goes nothing t g = nothing_goes t
   goes begun t g = begun_goes t
   goes (moded m) t g = moded_goes m t

@@ -10,9 +10,9 @@ use Rattle.sx_kinds.specs.declared.sheets.Sheet.{Sheet}
 use Rattle.sx_kinds.specs.declared.sheets.Template.{Template}
 use Rattle.sx_named.specs.Named.{Name, named}
 use Rattle.sx_sheet.specs.declared.reading.LinedEvent.{LinedEvent}
-use Rattle.sx_sheet.specs.Tokens.{Token, LinedToken, token_of, is_blank, is_in_text, put_said, tokens_from, tokens_of}
-use Rattle.sx_sheet.specs.Syntax.{Body, nil, literal, words, apply, TemplateSyntax, said, tokens_in, lines_in}
-use Rattle.sx_sheet.specs.Numbers.{Place, opened, passed, passed_all, past, past_template, past_head, entered, instrs_of, templates_of, literal_with, text_with, apply_with, template_with, thin_mode, HasNumber, IsSheetOf, AllBody, AllTemplates}
+use Rattle.sx_sheet.specs.Tokens.{Token, LinedToken, token_of, is_blank_token, is_in_text, put_said, tokens_from, tokens_of}
+use Rattle.sx_sheet.specs.Syntax.{ThinBody, nil, literal, words, apply, TemplateSyntax, said, tokens_in, lines_in}
+use Rattle.sx_sheet.specs.Numbers.{NumberPlace, place_opened, passed, passed_all, past, past_template, past_head, place_entered, instrs_of, templates_of, literal_with, text_with, apply_with, template_with, thin_mode, HasNumber, IsSheetOf, AllBody, AllTemplates}
 use Rattle.sx_sheet.proofs.Bodies.{all-weaker}
 use Rattle.sx_sheet.proofs.Told.{IsTold, token_told}
 use Rattle.sx_names.specs.Numbering.{NameTable}
@@ -29,7 +29,7 @@ put_told false t line rest h k = (h, k)
 
 said_told : (b : Bool) (o : Option Token) (line : ℕ) (rest : Bool → List LinedToken) → IfSome o IsTold → ((c : Bool) → AllTold (tokens_in (rest c))) → AllTold (tokens_in (put_said b o line rest))
 said_told b None line rest h k = k b
-said_told b (Some t) line rest h k = put_told (is_blank t && not b) t line (rest (is_in_text b t)) h (k (is_in_text b t))
+said_told b (Some t) line rest h k = put_told (is_blank_token t && not b) t line (rest (is_in_text b t)) h (k (is_in_text b t))
 
 all_told : (known : NameTable) (events : List LinedEvent) (b : Bool) → AllTold (tokens_in (tokens_from known events b))
 all_told known [] b = tt
@@ -61,17 +61,17 @@ pub record AreBuilt (count : ℕ) (P : List Instr → Type 0) (Q : List Template
   pub templates : (c : Construct) (p : NamePattern) (b : List Instr) (rest : List Template) → p.name < count → P b → Q rest → Q (template_with c p b ∷ rest)
 
 module _ (lines : List ℕ) (number : Name → ℕ) (count : ℕ) (P : List Instr → Type 0) (Q : List Template → Type 0) (built : AreBuilt count P Q) where
-  instrs_hold : (b : Body) (p : Place) → AllBody (λ name. number name < count) b → P (instrs_of lines number p b)
+  instrs_hold : (b : ThinBody) (p : NumberPlace) → AllBody (λ name. number name < count) b → P (instrs_of lines number p b)
   instrs_hold nil p h = built.empty
   instrs_hold (literal name b rest) p h =
-      built.literals _ (number name) (instrs_of lines number (opened p) b) (instrs_of lines number (passed (past (opened p) b)) rest) h.0 (instrs_hold b (opened p) h.1) (instrs_hold rest (passed (past (opened p) b)) h.2)
-  instrs_hold (words s rest) p h = built.texts _ s (instrs_of lines number (passed (passed_all (opened p) (said s))) rest) (instrs_hold rest (passed (passed_all (opened p) (said s))) h)
-  instrs_hold (apply rest) p h = built.applies _ (instrs_of lines number (passed (opened p)) rest) (instrs_hold rest (passed (opened p)) h)
+      built.literals _ (number name) (instrs_of lines number (place_opened p) b) (instrs_of lines number (passed (past (place_opened p) b)) rest) h.0 (instrs_hold b (place_opened p) h.1) (instrs_hold rest (passed (past (place_opened p) b)) h.2)
+  instrs_hold (words s rest) p h = built.texts _ s (instrs_of lines number (passed (passed_all (place_opened p) (said s))) rest) (instrs_hold rest (passed (passed_all (place_opened p) (said s))) h)
+  instrs_hold (apply rest) p h = built.applies _ (instrs_of lines number (passed (place_opened p)) rest) (instrs_hold rest (passed (place_opened p)) h)
 
-  templates_hold : (ts : List TemplateSyntax) (p : Place) → AllTemplates (λ name. number name < count) ts → Q (templates_of lines number p ts)
+  templates_hold : (ts : List TemplateSyntax) (p : NumberPlace) → AllTemplates (λ name. number name < count) ts → Q (templates_of lines number p ts)
   templates_hold [] p h = built.none
   templates_hold (t ∷ ts) p h =
-      built.templates _ _ (instrs_of lines number (entered p) t.body) (templates_of lines number (past_template p t) ts) h.0 (instrs_hold t.body (entered p) h.1) (templates_hold ts (past_template p t) h.2)
+      built.templates _ _ (instrs_of lines number (place_entered p) t.body) (templates_of lines number (past_template p t) ts) h.0 (instrs_hold t.body (place_entered p) h.1) (templates_hold ts (past_template p t) h.2)
 
 -- what holds so holds of its templates, whose names all have numbers in the table
 pub names_known : (lined : List LinedToken) (names : NameTable) (sheet : Sheet) (P : List Instr → Type 0) (Q : List Template → Type 0) → IsSheetOf lined names sheet → AreBuilt (length names) P Q → Q sheet.templates

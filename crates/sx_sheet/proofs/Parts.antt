@@ -11,16 +11,16 @@ use Rattle.sx_sheet.specs.declared.stages.Stage.{Stage}
 use Rattle.sx_sheet.specs.declared.stages.Stage.TheVariants as stage
 use Rattle.sx_sheet.specs.declared.stages.TemplateStart.{TemplateStart}
 use Rattle.sx_sheet.specs.Tokens.{Token, starts_sheet, starts_mode, starts_template, starts_literal, starts_text, starts_apply, ends, says, closes}
-use Rattle.sx_sheet.specs.Syntax.{Body, TemplateSyntax, tokens_of_body, tokens_of_templates}
-use Rattle.sx_sheet.specs.Numbers.{Place, place, opened, passed, entered, past, past_head, line_at, next_construct, text_with, apply_with, instrs_of, templates_of, past_templates, plain, AllBody, AllTemplates}
-use Rattle.sx_sheet.specs.Machine.{State, state, template_start, frame}
+use Rattle.sx_sheet.specs.Syntax.{ThinBody, TemplateSyntax, tokens_of_body, tokens_of_templates}
+use Rattle.sx_sheet.specs.Numbers.{NumberPlace, number_place, place_opened, passed, place_entered, past, past_head, line_at, next_construct, text_with, apply_with, instrs_of, templates_of, past_templates, plain, AllBody, AllTemplates}
+use Rattle.sx_sheet.specs.Machine.{SheetState, state, template_start, frame}
 
 -- an open literal element
 pub record Level : Type 0 where
   pub name : Name
-  pub before : Body
+  pub before : ThinBody
 
-abbrev pub level : Name → Body → Level
+abbrev pub level : Name → ThinBody → Level
 level n b = record { name = n; before = b }
 
 -- a template that has not ended, behind those that have
@@ -29,7 +29,7 @@ pub record Inner : Type 0 where
   pub done : List TemplateSyntax
   pub name : List ℕ
   pub outer : List Level
-  pub body : Body
+  pub body : ThinBody
 
 -- What was read: nothing, the start of the stylesheet, or that and the start of its mode; templates; those and a part of one that
 -- has not ended, where an `xsl:text` or an `xsl:apply-templates` may have started; all but the end of the input; or all.
@@ -72,33 +72,33 @@ tokens_of (closed m ts) = ((head m ++ tokens_of_templates ts) ++ ends ∷ []) ++
 -- ---- places behind them
 
 -- behind templates
-abbrev pub base : List TemplateSyntax → Place
+abbrev pub base : List TemplateSyntax → NumberPlace
 base ts = past_templates past_head ts
 
 -- behind the start of the innermost of these elements
-abbrev pub inside_of : Place → List Level → Place
+abbrev pub inside_of : NumberPlace → List Level → NumberPlace
 inside_of p [] = p
-inside_of p (l ∷ ls) = opened (past (inside_of p ls) l.before)
+inside_of p (l ∷ ls) = place_opened (past (inside_of p ls) l.before)
 
 -- where the body that has not ended begins, and how far it was read
-abbrev pub body_start : Inner → Place
-body_start i = inside_of (entered (base i.done)) i.outer
+abbrev pub body_start : Inner → NumberPlace
+body_start i = inside_of (place_entered (base i.done)) i.outer
 
-abbrev pub here : Inner → Place
+abbrev pub here : Inner → NumberPlace
 here i = past (body_start i) i.body
 
 -- ---- the reader behind them
 
 module _ (lines : List ℕ) (nm : Name → ℕ) where
-  abbrev pub frames : Place → List Level → List Frame
+  abbrev pub frames : NumberPlace → List Level → List Frame
   frames p [] = []
   frames p (l ∷ ls) = frame (nm l.name) (next_construct lines (past (inside_of p ls) l.before) kind.Literal) (instrs_of lines nm (inside_of p ls) l.before) ∷ frames p ls
 
   abbrev pub starting : Inner → TemplateStart
   starting i = template_start (line_at lines (base i.done)) (base i.done).constructs (nm (plain i.name))
 
-  abbrev pub inner_state : Stage → Inner → List Instr → Place → State
-  inner_state g i b p = state g i.no_match (templates_of lines nm past_head i.done) (frames (entered (base i.done)) i.outer) b p
+  abbrev pub inner_state : Stage → Inner → List Instr → NumberPlace → SheetState
+  inner_state g i b p = state g i.no_match (templates_of lines nm past_head i.done) (frames (place_entered (base i.done)) i.outer) b p
 
   abbrev pub read_so_far : Inner → List Instr
   read_so_far i = instrs_of lines nm (body_start i) i.body
@@ -106,15 +106,15 @@ module _ (lines : List ℕ) (nm : Name → ℕ) where
   abbrev pub text_start : Inner → Construct
   text_start i = next_construct lines (here i) kind.Text
 
-  abbrev pub shows : Part → State
-  shows nothing = state stage.Sheet TextOnlyCopy [] [] [] (place 0 0)
-  shows begun = state stage.Mode TextOnlyCopy [] [] [] (place 0 1)
-  shows (moded m) = state stage.ModeEnd m [] [] [] (place 0 2)
+  abbrev pub shows : Part → SheetState
+  shows nothing = state stage.Sheet TextOnlyCopy [] [] [] (number_place 0 0)
+  shows begun = state stage.Mode TextOnlyCopy [] [] [] (number_place 0 1)
+  shows (moded m) = state stage.ModeEnd m [] [] [] (number_place 0 2)
   shows (between m ts) = state stage.Templates m (templates_of lines nm past_head ts) [] [] (base ts)
   shows (within i) = inner_state (stage.Body (starting i)) i (read_so_far i) (here i)
-  shows (texting i) = inner_state (stage.Text (starting i) (text_start i)) i (read_so_far i) (opened (here i))
-  shows (texted i c s) = inner_state (stage.TextEnd (starting i)) i (read_so_far i ++ text_with (text_start i) (c ∷ s) ∷ []) (passed (opened (here i)))
-  shows (applied i) = inner_state (stage.ApplyEnd (starting i)) i (read_so_far i ++ apply_with (next_construct lines (here i) kind.ApplyTemplates) ∷ []) (opened (here i))
+  shows (texting i) = inner_state (stage.Text (starting i) (text_start i)) i (read_so_far i) (place_opened (here i))
+  shows (texted i c s) = inner_state (stage.TextEnd (starting i)) i (read_so_far i ++ text_with (text_start i) (c ∷ s) ∷ []) (passed (place_opened (here i)))
+  shows (applied i) = inner_state (stage.ApplyEnd (starting i)) i (read_so_far i ++ apply_with (next_construct lines (here i) kind.ApplyTemplates) ∷ []) (place_opened (here i))
   shows (ended m ts) = state stage.Close m (templates_of lines nm past_head ts) [] [] (passed (base ts))
   shows (closed m ts) = state stage.End m (templates_of lines nm past_head ts) [] [] (passed (passed (base ts)))
 

@@ -11,7 +11,7 @@ use Rattle.sx_tree.specs.Tree.{TreeEvent}
 use Rattle.sx_named.specs.Named.{Name, Attribute, ElementStart, name_at, attributes_at}
 use Rattle.sx_sheet.specs.declared.tokens.Token as code
 use Rattle.sx_sheet.specs.declared.tokens.Token.TheVariants as token
-use Rattle.sx_sheet.specs.Tokens.{Token, starts_mode, starts_template, starts_literal, starts_text, starts_apply, strange, is_empty, is_plain_name, is_value, value_of, mode_token_for, template_token_for, if_bare, xslt_token, xslt_namespace, literal_token, start_token, token_of}
+use Rattle.sx_sheet.specs.Tokens.{Token, starts_mode, starts_template, starts_literal, starts_text, starts_apply, strange, is_empty, is_plain_name, is_value, value_named, mode_token_for, template_token_for, if_bare, xslt_token, xslt_namespace, literal_token, start_token, token_of}
 use Rattle.sx_sheet.specs.Shown.{bare_name, shown, IsShown}
 
 pub length_at : (names : NameTable) (attrs : List Attr) → length (attributes_at names attrs) ≡ length attrs
@@ -47,9 +47,9 @@ bare_told attributes t h = either (is_empty attributes) _ _ (λ e. h) (λ e. tt)
 
 xslt_told : (local : List ℕ) (attributes : List Attribute) → IsTold (xslt_token local attributes)
 xslt_told local attributes =
-    either (bytes_eq local (codes "stylesheet")) _ _ (λ e. either (length attributes == 1 && is_value (codes "3.0") (value_of attributes (codes "version"))) _ _ (λ e. tt) (λ e. tt))
-    (λ e1. either (bytes_eq local (codes "mode")) _ _ (λ e. either (length attributes == 2 && is_value (codes "yes") (value_of attributes (codes "streamable"))) _ _ (λ e. mode_told (value_of attributes (codes "on-no-match"))) (λ e. tt))
-    (λ e2. either (bytes_eq local (codes "template")) _ _ (λ e. either (length attributes == 1) _ _ (λ e. template_told (value_of attributes (codes "match"))) (λ e. tt))
+    either (bytes_eq local (codes "stylesheet")) _ _ (λ e. either (length attributes == 1 && is_value (codes "3.0") (value_named attributes (codes "version"))) _ _ (λ e. tt) (λ e. tt))
+    (λ e1. either (bytes_eq local (codes "mode")) _ _ (λ e. either (length attributes == 2 && is_value (codes "yes") (value_named attributes (codes "streamable"))) _ _ (λ e. mode_told (value_named attributes (codes "on-no-match"))) (λ e. tt))
+    (λ e2. either (bytes_eq local (codes "template")) _ _ (λ e. either (length attributes == 1) _ _ (λ e. template_told (value_named attributes (codes "match"))) (λ e. tt))
     (λ e3. either (bytes_eq local (codes "text")) _ _ (λ e. bare_told attributes starts_text tt)
     (λ e4. either (bytes_eq local (codes "apply-templates")) _ _ (λ e. bare_told attributes starts_apply tt) (λ e. tt)))))
 

@@ -7,10 +7,10 @@ use Rattle.sx_named.specs.Named.{Name}
 use Rattle.sx_sheet.specs.declared.reader.Reader.{Reader}
 use Rattle.sx_sheet.specs.declared.reading.LinedEvent.{LinedEvent}
 use Rattle.sx_sheet.specs.Tokens.{Token, LinedToken, tokens_of}
-use Rattle.sx_sheet.specs.Syntax.{tokens_in, lines_in, BreaksBehind, BreaksOn}
+use Rattle.sx_sheet.specs.Syntax.{tokens_in, lines_in, BreaksAfter, BreaksOn}
 use Rattle.sx_sheet.specs.Numbers.{sheet_with, HasNumber, IsSheetOf}
-use Rattle.sx_sheet.specs.Machine.{State, is_last, start, state_of}
-use Rattle.sx_sheet.specs.Looking.{course, Gives, Results}
+use Rattle.sx_sheet.specs.Machine.{SheetState, is_last, first_state, state_of_reader}
+use Rattle.sx_sheet.specs.Looking.{course_through, GivesNumbers, Results}
 use Rattle.sx_sheet.proofs.Parts.{Part, nothing, begun, moded, between, within, texting, texted, applied, ended, closed, shows, Good}
 use Rattle.sx_sheet.proofs.Parts as part
 use Rattle.sx_sheet.proofs.Exact.{begins_part, reads, Outcome, Stops, outcome, whole_again}
@@ -86,12 +86,12 @@ stands : (xs : Names) (v k : List ℕ) (n : ℕ) → find_in xs v k ≡ Some n �
 stands [] v k n e = absurd cc
 stands (x ∷ xs) v k n e = stands_by (bytes_eq x.0 v && bytes_eq x.1 k) x.0 x.1 v k xs (find_in xs v k) n refl refl e (λ m h. stands xs v k m h)
 
-gives_find : (names : Names) → IsDistinct names → Gives names (found_in names)
+gives_find : (names : Names) → IsDistinct names → GivesNumbers names (found_in names)
 gives_find names d n name e =
     let f = finds names n name.uri name.local e in
     f.found ∙ ap (λ (m : ℕ). Some m) (d f.place n (name.uri, name.local) f.stands e)
 
-gives_total : (lines : List ℕ) (names : Names) → IsDistinct names → Gives names (completing.look lines (place_in names))
+gives_total : (lines : List ℕ) (names : Names) → IsDistinct names → GivesNumbers names (completing.look lines (place_in names))
 gives_total lines names d n name e = rw (gives_find names d n name e) refl
 
 -- ---- the stylesheet
@@ -101,17 +101,17 @@ numbered_at names name n e =
     let p : place_in names name ≡ n = rw e refl in
     (p, rw p (stands names name.uri name.local n e))
 
-not_last : (lines : List ℕ) (names : Names) (r : State) (p : Part) → shows lines (place_in names) p ≡ r → is_last r.stage ≡ true → is_last (shows lines (place_in names) p).stage ≡ true
+not_last : (lines : List ℕ) (names : Names) (r : SheetState) (p : Part) → shows lines (place_in names) p ≡ r → is_last r.stage ≡ true → is_last (shows lines (place_in names) p).stage ≡ true
 not_last lines names r p e f = rw e f
 
-last_part : (lined : List LinedToken) (names : Names) (r : State) (p : Part) → Good (HasNumber names (place_in names)) p → shows (lines_in lined) (place_in names) p ≡ r → is_last r.stage ≡ true → part.tokens_of p ≡ tokens_in lined →
+last_part : (lined : List LinedToken) (names : Names) (r : SheetState) (p : Part) → Good (HasNumber names (place_in names)) p → shows (lines_in lined) (place_in names) p ≡ r → is_last r.stage ≡ true → part.tokens_of p ≡ tokens_in lined →
     IsSheetOf lined names (sheet_with r.no_match r.templates r.place.constructs)
 last_part lined names r (closed m ts) g e f h = record {
   syntax = record { no_match = m; templates = ts };
   written = whole_again m ts ∙ h;
   number = place_in names;
   known = g;
-  says = ap (λ (s : State). sheet_with s.no_match s.templates s.place.constructs) (sym e);
+  says = ap (λ (s : SheetState). sheet_with s.no_match s.templates s.place.constructs) (sym e);
 }
 last_part lined names r nothing g e f h = let x = not_last (lines_in lined) names r nothing e f in absurd cc
 last_part lined names r begun g e f h = let x = not_last (lines_in lined) names r begun e f in absurd cc
@@ -123,30 +123,30 @@ last_part lined names r (texted i c s) g e f h = let x = not_last (lines_in line
 last_part lined names r (applied i) g e f h = let x = not_last (lines_in lined) names r (applied i) e f in absurd cc
 last_part lined names r (ended m ts) g e f h = let x = not_last (lines_in lined) names r (ended m ts) e f in absurd cc
 
-by_course : (lines : List ℕ) (look : Name → Option ℕ) (tokens : List Token) (x : Result State ℕ) → x ≡ course lines look start 0 tokens → Outcome lines look start 0 tokens x
-by_course lines look tokens x e = rw e (outcome lines look tokens start 0)
+by_course : (lines : List ℕ) (look : Name → Option ℕ) (tokens : List Token) (x : Result SheetState ℕ) → x ≡ course_through lines look first_state 0 tokens → Outcome lines look first_state 0 tokens x
+by_course lines look tokens x e = rw e (outcome lines look tokens first_state 0)
 
 pub ok_reads : (known names : Names) (events : List LinedEvent) (r : Reader) → IsDistinct names → Results known names events (Ok r) → IsSheetOf (tokens_of known events) names (sheet_with r.no_match r.templates r.constructs)
 ok_reads known names events r d f =
     let lined : List LinedToken = tokens_of known events in
     let lines : List ℕ = lines_in lined in
-    let s : State = state_of f.tokens r in
-    let o : Outcome lines (found_in names) start 0 (tokens_in lined) (Ok s) = by_course lines (found_in names) (tokens_in lined) (Ok s) (f.course (found_in names) (gives_find names d)) in
+    let s : SheetState = state_of_reader f.tokens r in
+    let o : Outcome lines (found_in names) first_state 0 (tokens_in lined) (Ok s) = by_course lines (found_in names) (tokens_in lined) (Ok s) (f.course (found_in names) (gives_find names d)) in
     let x = reads lines (found_in names) (place_in names) (HasNumber names (place_in names)) (numbered_at names) (tokens_in lined) nothing s tt o.0 in
     last_part lined names s x.part x.good x.is_shown o.1 x.taken
 
 -- ---- the line of a fault
 
-none_some : (o : Option State) (s : State) → o ≡ None → o ≡ Some s → ⊥
+none_some : (o : Option SheetState) (s : SheetState) → o ≡ None → o ≡ Some s → ⊥
 none_some o s e f = absurd cc
 
-not_both : (o : Option State) (a b : State) → o ≡ Some a → is_last a.stage ≡ false → o ≡ Some b → is_last b.stage ≡ true → ⊥
+not_both : (o : Option SheetState) (a b : SheetState) → o ≡ Some a → is_last a.stage ≡ false → o ≡ Some b → is_last b.stage ≡ true → ⊥
 not_both o a b e f g h = let x : a ≡ b = cc in let y : is_last b.stage ≡ false = rw (sym x) f in absurd cc
 
 same_number : (a b : ℕ) → Some a ≡ Some b → a ≡ b
 same_number a b e = cc
 
-breaks : (lines : List ℕ) (total : Name → ℕ) (tokens : List Token) (i : ℕ) → Stops lines (completing.look lines total) start tokens i → BreaksBehind tokens i
+breaks : (lines : List ℕ) (total : Name → ℕ) (tokens : List Token) (i : ℕ) → Stops lines (completing.look lines total) first_state tokens i → BreaksAfter tokens i
 breaks lines total tokens i s =
     let look : Name → Option ℕ = completing.look lines total in
     let x = reads lines look total (λ name. Unit {0}) (λ name m h. (same_number (total name) m h, tt)) (take i tokens) nothing s.last tt s.reaches in
@@ -165,5 +165,5 @@ err_breaks known names events line d f =
     let lined : List LinedToken = tokens_of known events in
     let lines : List ℕ = lines_in lined in
     let look : Name → Option ℕ = completing.look lines (place_in names) in
-    let o : Outcome lines look start 0 (tokens_in lined) (Err line) = by_course lines look (tokens_in lined) (Err line) (f.course look (gives_total lines names d)) in
+    let o : Outcome lines look first_state 0 (tokens_in lined) (Err line) = by_course lines look (tokens_in lined) (Err line) (f.course look (gives_total lines names d)) in
     record { before = o.0; breaks = breaks lines (place_in names) (tokens_in lined) o.0 o.2; line_is = o.1 ∙ ap (λ (n : ℕ). slice_index_or lines n 0) (none_before o.0) }

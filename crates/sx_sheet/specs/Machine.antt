@@ -13,50 +13,50 @@ use Rattle.sx_sheet.specs.declared.stages.TemplateStart.{TemplateStart}
 use Rattle.sx_sheet.specs.declared.reader.Frame.{Frame}
 use Rattle.sx_sheet.specs.declared.reader.Reader.{Reader}
 use Rattle.sx_sheet.specs.Tokens.{Token, starts_sheet, starts_mode, starts_template, starts_literal, starts_text, starts_apply, ends, says, closes}
-use Rattle.sx_sheet.specs.Numbers.{Place, place, opened, passed, entered, line_at, construct_on, pattern_on, literal_with, text_with, apply_with, template_with, plain}
+use Rattle.sx_sheet.specs.Numbers.{NumberPlace, number_place, place_opened, passed, place_entered, line_at, construct_on, pattern_on, literal_with, text_with, apply_with, template_with, plain}
 
 -- what was read: the open elements with the innermost first, the body so far, and the templates that have ended
-pub record State : Type 0 where
+pub record SheetState : Type 0 where
   pub stage : Stage
   pub no_match : OnNoMatch
   pub templates : List Template
   pub outer : List Frame
   pub body : List Instr
-  pub place : Place
+  pub place : NumberPlace
 
 -- the same by its parts
-abbrev pub state : Stage → OnNoMatch → List Template → List Frame → List Instr → Place → State
+abbrev pub state : Stage → OnNoMatch → List Template → List Frame → List Instr → NumberPlace → SheetState
 state g m ts fs b p = record { stage = g; no_match = m; templates = ts; outer = fs; body = b; place = p }
 
 -- what a reader has read, which is so many tokens
-abbrev pub state_of : ℕ → Reader → State
-state_of tokens r = state r.stage r.no_match r.templates (reverse r.outer) r.body (place r.constructs tokens)
+abbrev pub state_of_reader : ℕ → Reader → SheetState
+state_of_reader tokens r = state r.stage r.no_match r.templates (reverse r.outer) r.body (number_place r.constructs tokens)
 
 -- nothing was read
-abbrev pub start : State
-start = state stage.Sheet TextOnlyCopy [] [] [] (place 0 0)
+abbrev pub first_state : SheetState
+first_state = state stage.Sheet TextOnlyCopy [] [] [] (number_place 0 0)
 
 -- behind a token that starts no construct
-abbrev pub onward : State → Stage → State
-onward s g = state g s.no_match s.templates s.outer s.body (passed s.place)
+abbrev pub on_to_stage : SheetState → Stage → SheetState
+on_to_stage s g = state g s.no_match s.templates s.outer s.body (passed s.place)
 
 -- behind a token that ends the last instruction of the body
-abbrev pub with_instr : State → Stage → Instr → State
+abbrev pub with_instr : SheetState → Stage → Instr → SheetState
 with_instr s g i = state g s.no_match s.templates s.outer (s.body ++ i ∷ []) (passed s.place)
 
 -- with the number of a name, if it is looked up
-abbrev pub with_number : Option ℕ → (ℕ → State) → Option State
-with_number None f = None
-with_number (Some n) f = Some (f n)
+abbrev pub state_with_number : Option ℕ → (ℕ → SheetState) → Option SheetState
+state_with_number None f = None
+state_with_number (Some n) f = Some (f n)
 
 -- a token at a stage that expects but one
-abbrev pub fixed : Stage → State → Token → Option State
-fixed stage.Sheet s starts_sheet = Some (onward s stage.Mode)
+abbrev pub fixed : Stage → SheetState → Token → Option SheetState
+fixed stage.Sheet s starts_sheet = Some (on_to_stage s stage.Mode)
 fixed stage.Mode s (starts_mode m) = Some (state stage.ModeEnd m s.templates s.outer s.body (passed s.place))
-fixed stage.ModeEnd s ends = Some (onward s stage.Templates)
-fixed (stage.TextEnd t) s ends = Some (onward s (stage.Body t))
-fixed (stage.ApplyEnd t) s ends = Some (onward s (stage.Body t))
-fixed stage.Close s closes = Some (onward s stage.End)
+fixed stage.ModeEnd s ends = Some (on_to_stage s stage.Templates)
+fixed (stage.TextEnd t) s ends = Some (on_to_stage s (stage.Body t))
+fixed (stage.ApplyEnd t) s ends = Some (on_to_stage s (stage.Body t))
+fixed stage.Close s closes = Some (on_to_stage s stage.End)
 fixed g s token = None
 
 -- the template that starts on this line behind so many constructs, and its pattern
@@ -68,27 +68,27 @@ abbrev pub frame : ℕ → Construct → List Instr → Frame
 frame n c b = record { number = n; construct = c; before = b }
 
 -- a literal element with the name of this number starts on this line
-abbrev pub with_literal : ℕ → TemplateStart → State → ℕ → State
+abbrev pub with_literal : ℕ → TemplateStart → SheetState → ℕ → SheetState
 with_literal line t s n =
-    state (stage.Body t) s.no_match s.templates (frame n (construct_on line s.place.constructs kind.Literal) s.body ∷ s.outer) [] (opened s.place)
+    state (stage.Body t) s.no_match s.templates (frame n (construct_on line s.place.constructs kind.Literal) s.body ∷ s.outer) [] (place_opened s.place)
 
 -- an application of templates starts on this line
-abbrev pub with_apply : ℕ → TemplateStart → State → State
+abbrev pub with_apply : ℕ → TemplateStart → SheetState → SheetState
 with_apply line t s =
-    state (stage.ApplyEnd t) s.no_match s.templates s.outer (s.body ++ apply_with (construct_on line s.place.constructs kind.ApplyTemplates) ∷ []) (opened s.place)
+    state (stage.ApplyEnd t) s.no_match s.templates s.outer (s.body ++ apply_with (construct_on line s.place.constructs kind.ApplyTemplates) ∷ []) (place_opened s.place)
 
 -- the innermost literal element ends, or the template where none is open
-abbrev pub end_innermost : TemplateStart → State → List Frame → State
+abbrev pub end_innermost : TemplateStart → SheetState → List Frame → SheetState
 end_innermost t s [] = state stage.Templates s.no_match (s.templates ++ template_with t.construct t.pattern s.body ∷ []) [] [] (passed s.place)
 end_innermost t s (f ∷ fs) = state (stage.Body t) s.no_match s.templates fs (f.before ++ literal_with f.construct f.number s.body ∷ []) (passed s.place)
 
 -- a text that is not empty is said in an `xsl:text`
-abbrev pub say : TemplateStart → Construct → State → List ℕ → Option State
+abbrev pub say : TemplateStart → Construct → SheetState → List ℕ → Option SheetState
 say t c s [] = None
 say t c s (x ∷ xs) = Some (with_instr s (stage.TextEnd t) (text_with c (x ∷ xs)))
 
--- behind the start of an `xsl:text`
-abbrev pub in_text : TemplateStart → Construct → State → Token → Option State
+-- behind the first_state of an `xsl:text`
+abbrev pub in_text : TemplateStart → Construct → SheetState → Token → Option SheetState
 in_text t c s (says w) = say t c s w
 in_text t c s ends = Some (with_instr s (stage.Body t) (text_with c []))
 in_text t c s token = None
@@ -96,40 +96,40 @@ in_text t c s token = None
 -- where names are looked up so
 module _ (look : Name → Option ℕ) where
   -- a template starts, or the stylesheet ends
-  abbrev pub between : ℕ → State → Token → Option State
+  abbrev pub between : ℕ → SheetState → Token → Option SheetState
   between line s (starts_template name) =
-      with_number (look (plain name)) (λ n. state (stage.Body (template_start line s.place.constructs n)) s.no_match s.templates s.outer s.body (entered s.place))
-  between line s ends = Some (onward s stage.Close)
+      state_with_number (look (plain name)) (λ n. state (stage.Body (template_start line s.place.constructs n)) s.no_match s.templates s.outer s.body (place_entered s.place))
+  between line s ends = Some (on_to_stage s stage.Close)
   between line s token = None
 
   -- in a body an instruction starts, or the innermost element ends
-  abbrev pub inside : ℕ → TemplateStart → State → Token → Option State
-  inside line t s (starts_literal name) = with_number (look name) (with_literal line t s)
-  inside line t s starts_text = Some (state (stage.Text t (construct_on line s.place.constructs kind.Text)) s.no_match s.templates s.outer s.body (opened s.place))
-  inside line t s starts_apply = Some (with_apply line t s)
-  inside line t s ends = Some (end_innermost t s s.outer)
-  inside line t s token = None
+  abbrev pub inside_template : ℕ → TemplateStart → SheetState → Token → Option SheetState
+  inside_template line t s (starts_literal name) = state_with_number (look name) (with_literal line t s)
+  inside_template line t s starts_text = Some (state (stage.Text t (construct_on line s.place.constructs kind.Text)) s.no_match s.templates s.outer s.body (place_opened s.place))
+  inside_template line t s starts_apply = Some (with_apply line t s)
+  inside_template line t s ends = Some (end_innermost t s s.outer)
+  inside_template line t s token = None
 
   -- a token on a line at a stage
-  abbrev pub step_at : ℕ → Stage → State → Token → Option State
+  abbrev pub step_at : ℕ → Stage → SheetState → Token → Option SheetState
   step_at line stage.Templates s token = between line s token
-  step_at line (stage.Body t) s token = inside line t s token
+  step_at line (stage.Body t) s token = inside_template line t s token
   step_at line (stage.Text t c) s token = in_text t c s token
   step_at line g s token = fixed g s token
 
   -- what was read with one token more, which is on this line
-  abbrev pub step : ℕ → State → Token → Option State
-  step line s token = step_at line s.stage s token
+  abbrev pub next_state : ℕ → SheetState → Token → Option SheetState
+  next_state line s token = step_at line s.stage s token
 
 -- and so on, where the reader goes on
-abbrev pub and_then : Option State → (State → Option State) → Option State
-and_then None f = None
-and_then (Some s) f = f s
+abbrev pub then_state : Option SheetState → (SheetState → Option SheetState) → Option SheetState
+then_state None f = None
+then_state (Some s) f = f s
 
 -- what was read with these tokens more, where the reader goes on at each
-abbrev pub run : List ℕ → (Name → Option ℕ) → State → List Token → Option State
-run lines look s [] = Some s
-run lines look s (t ∷ ts) = and_then (step look (line_at lines s.place) s t) (λ next. run lines look next ts)
+abbrev pub run_states : List ℕ → (Name → Option ℕ) → SheetState → List Token → Option SheetState
+run_states lines look s [] = Some s
+run_states lines look s (t ∷ ts) = then_state (next_state look (line_at lines s.place) s t) (λ next. run_states lines look next ts)
 
 -- whether nothing is left to be read
 abbrev pub is_last : Stage → Bool

@@ -14,56 +14,56 @@ use Rattle.sx_kinds.specs.declared.sheets.Mode.{Mode}
 use Rattle.sx_kinds.specs.declared.sheets.OnNoMatch.{OnNoMatch}
 use Rattle.sx_kinds.specs.declared.sheets.Sheet.{Sheet}
 use Rattle.sx_sheet.specs.Tokens.{Token, LinedToken}
-use Rattle.sx_sheet.specs.Syntax.{Body, nil, literal, words, apply, TemplateSyntax, SheetSyntax, said, tokens_of_sheet, tokens_in, lines_in}
+use Rattle.sx_sheet.specs.Syntax.{ThinBody, nil, literal, words, apply, TemplateSyntax, SheetSyntax, said, tokens_of_sheet, tokens_in, lines_in}
 use Rattle.sx_names.specs.Numbering.{NameTable}
 
 -- ---- places
 
 -- how many constructs have started, and how many tokens were read
-pub record Place : Type 0 where
+pub record NumberPlace : Type 0 where
   pub constructs : ℕ
   pub tokens : ℕ
 
 -- the same by its parts
-abbrev pub place : ℕ → ℕ → Place
-place c t = record { constructs = c; tokens = t }
+abbrev pub number_place : ℕ → ℕ → NumberPlace
+number_place c t = record { constructs = c; tokens = t }
 
 -- behind a token that starts a construct
-abbrev pub opened : Place → Place
-opened p = place (p.constructs + 1) (p.tokens + 1)
+abbrev pub place_opened : NumberPlace → NumberPlace
+place_opened p = number_place (p.constructs + 1) (p.tokens + 1)
 
 -- behind a token that starts none
-abbrev pub passed : Place → Place
-passed p = place p.constructs (p.tokens + 1)
+abbrev pub passed : NumberPlace → NumberPlace
+passed p = number_place p.constructs (p.tokens + 1)
 
 -- behind these tokens, which start no construct
-abbrev pub passed_all : Place → List Token → Place
+abbrev pub passed_all : NumberPlace → List Token → NumberPlace
 passed_all p [] = p
 passed_all p (t ∷ ts) = passed_all (passed p) ts
 
 -- behind the start of a template, whose pattern is a construct too
-abbrev pub entered : Place → Place
-entered p = place (p.constructs + 2) (p.tokens + 1)
+abbrev pub place_entered : NumberPlace → NumberPlace
+place_entered p = number_place (p.constructs + 2) (p.tokens + 1)
 
 -- behind a body
-abbrev pub past : Place → Body → Place
+abbrev pub past : NumberPlace → ThinBody → NumberPlace
 past p nil = p
-past p (literal name b rest) = past (passed (past (opened p) b)) rest
-past p (words s rest) = past (passed (passed_all (opened p) (said s))) rest
-past p (apply rest) = past (passed (opened p)) rest
+past p (literal name b rest) = past (passed (past (place_opened p) b)) rest
+past p (words s rest) = past (passed (passed_all (place_opened p) (said s))) rest
+past p (apply rest) = past (passed (place_opened p)) rest
 
 -- behind a template
-abbrev pub past_template : Place → TemplateSyntax → Place
-past_template p t = passed (past (entered p) t.body)
+abbrev pub past_template : NumberPlace → TemplateSyntax → NumberPlace
+past_template p t = passed (past (place_entered p) t.body)
 
 -- behind templates
-abbrev pub past_templates : Place → List TemplateSyntax → Place
+abbrev pub past_templates : NumberPlace → List TemplateSyntax → NumberPlace
 past_templates p [] = p
 past_templates p (t ∷ ts) = past_templates (past_template p t) ts
 
 -- behind the start of the stylesheet and its mode: three tokens, no construct
-abbrev pub past_head : Place
-past_head = place 0 3
+abbrev pub past_head : NumberPlace
+past_head = number_place 0 3
 
 -- ---- constructs
 
@@ -103,30 +103,30 @@ plain local = record { prefix = []; uri = []; local = local }
 
 -- where the tokens have these lines
 module _ (lines : List ℕ) where
-  -- the line of the token at a place
-  abbrev pub line_at : Place → ℕ
+  -- the line of the token at a number_place
+  abbrev pub line_at : NumberPlace → ℕ
   line_at p = slice_index_or lines p.tokens 0
 
   -- the construct that starts there
-  abbrev pub next_construct : Place → ConstructKind → Construct
+  abbrev pub next_construct : NumberPlace → ConstructKind → Construct
   next_construct p k = construct_on (line_at p) p.constructs k
 
 -- where the tokens have these lines, and names these numbers
 module _ (lines : List ℕ) (number : Name → ℕ) where
-  -- the instructions of a body that begins at this place
-  abbrev pub instrs_of : Place → Body → List Instr
+  -- the instructions of a body that begins at this number_place
+  abbrev pub instrs_of : NumberPlace → ThinBody → List Instr
   instrs_of p nil = []
   instrs_of p (literal name b rest) =
-      literal_with (next_construct lines p kind.Literal) (number name) (instrs_of (opened p) b) ∷ instrs_of (passed (past (opened p) b)) rest
-  instrs_of p (words s rest) = text_with (next_construct lines p kind.Text) s ∷ instrs_of (passed (passed_all (opened p) (said s))) rest
-  instrs_of p (apply rest) = apply_with (next_construct lines p kind.ApplyTemplates) ∷ instrs_of (passed (opened p)) rest
+      literal_with (next_construct lines p kind.Literal) (number name) (instrs_of (place_opened p) b) ∷ instrs_of (passed (past (place_opened p) b)) rest
+  instrs_of p (words s rest) = text_with (next_construct lines p kind.Text) s ∷ instrs_of (passed (passed_all (place_opened p) (said s))) rest
+  instrs_of p (apply rest) = apply_with (next_construct lines p kind.ApplyTemplates) ∷ instrs_of (passed (place_opened p)) rest
 
-  -- the template that begins at this place: it and its pattern are two constructs on one line
-  abbrev pub template_of : Place → TemplateSyntax → Template
-  template_of p t = template_with (next_construct lines p kind.Template) (pattern_on (line_at lines p) p.constructs (number (plain t.name))) (instrs_of (entered p) t.body)
+  -- the template that begins at this number_place: it and its pattern are two constructs on one line
+  abbrev pub template_of : NumberPlace → TemplateSyntax → Template
+  template_of p t = template_with (next_construct lines p kind.Template) (pattern_on (line_at lines p) p.constructs (number (plain t.name))) (instrs_of (place_entered p) t.body)
 
-  -- the templates that begin at this place
-  abbrev pub templates_of : Place → List TemplateSyntax → List Template
+  -- the templates that begin at this number_place
+  abbrev pub templates_of : NumberPlace → List TemplateSyntax → List Template
   templates_of p [] = []
   templates_of p (t ∷ ts) = template_of p t ∷ templates_of (past_template p t) ts
 
@@ -147,7 +147,7 @@ sheet_of lines number s = sheet_with s.no_match (templates_of lines number past_
 -- where this is said of names
 module _ (N : Name → Type 0) where
   -- it holds of the names of all literal elements
-  abbrev pub AllBody : Body → Type 0
+  abbrev pub AllBody : ThinBody → Type 0
   AllBody nil = Unit {0}
   AllBody (literal name b rest) = N name × AllBody b × AllBody rest
   AllBody (words s rest) = AllBody rest

@@ -6,16 +6,16 @@ use Rattle.sx_sheet.specs.Tokens.{Token, starts_sheet, starts_mode, starts_templ
 
 -- Instructions one behind another: a literal element with its content, a text, or an application of templates; then
 -- those that follow.
-pub data Body : Type 0 where
-  nil : Body
-  literal : Name → Body → Body → Body
-  words : List ℕ → Body → Body
-  apply : Body → Body
+pub data ThinBody : Type 0 where
+  nil : ThinBody
+  literal : Name → ThinBody → ThinBody → ThinBody
+  words : List ℕ → ThinBody → ThinBody
+  apply : ThinBody → ThinBody
 
 -- a template: the name that it matches, and its body
 pub record TemplateSyntax : Type 0 where
   pub name : List ℕ
-  pub body : Body
+  pub body : ThinBody
 
 -- a stylesheet: what its mode does with nodes that no template matches, and its templates
 pub record SheetSyntax : Type 0 where
@@ -30,7 +30,7 @@ said [] = []
 said (c ∷ s) = says (c ∷ s) ∷ []
 
 -- the tokens of a body: a literal element or an instruction has a start and an end
-abbrev pub tokens_of_body : Body → List Token
+abbrev pub tokens_of_body : ThinBody → List Token
 tokens_of_body nil = []
 tokens_of_body (literal name b rest) = starts_literal name ∷ tokens_of_body b ++ ends ∷ tokens_of_body rest
 tokens_of_body (words s rest) = starts_text ∷ said s ++ ends ∷ tokens_of_body rest
@@ -59,7 +59,7 @@ pub record BeginsThin (tokens : List Token) : Type 0 where
 
 -- The tokens break off behind so many: those before begin a thin stylesheet, and with the next one they do not; or all of them
 -- begin one and are none.
-pub record BreaksBehind (tokens : List Token) (before : ℕ) : Type 0 where
+pub record BreaksAfter (tokens : List Token) (before : ℕ) : Type 0 where
   pub within : before ≤ length tokens
   pub begins : BeginsThin (take before tokens)
   pub here : before < length tokens → BeginsThin (take (suc before) tokens) → ⊥
@@ -81,5 +81,5 @@ pub record IsClosed (tokens : List Token) : Type 0 where
 -- stylesheet and are none, which the close of the input excludes, the line is 0.)
 pub record BreaksOn (lined : List LinedToken) (line : ℕ) : Type 0 where
   pub before : ℕ
-  pub breaks : BreaksBehind (tokens_in lined) before
+  pub breaks : BreaksAfter (tokens_in lined) before
   pub line_is : line ≡ slice_index_or (lines_in lined) before 0

@@ -41,9 +41,9 @@ abbrev pub is_plain_name : List ℕ → Bool
 is_plain_name s = not (is_empty s) && list_all is_letter s
 
 -- the value of the attribute of this local name in no namespace, if there is one
-abbrev pub value_of : List Attribute → List ℕ → Option (List ℕ)
-value_of [] local = None
-value_of (a ∷ rest) local = if is_empty a.name.uri && bytes_eq a.name.local local then Some a.value else value_of rest local
+abbrev pub value_named : List Attribute → List ℕ → Option (List ℕ)
+value_named [] local = None
+value_named (a ∷ rest) local = if is_empty a.name.uri && bytes_eq a.name.local local then Some a.value else value_named rest local
 
 -- there is a value, and it is this one
 abbrev pub is_value : List ℕ → Option (List ℕ) → Bool
@@ -52,7 +52,7 @@ is_value v (Some w) = bytes_eq w v
 
 -- the start of a stylesheet has the one attribute `version`, which is 3.0
 abbrev pub sheet_token : List Attribute → Token
-sheet_token attributes = if length attributes == 1 && is_value (codes "3.0") (value_of attributes (codes "version")) then starts_sheet else strange
+sheet_token attributes = if length attributes == 1 && is_value (codes "3.0") (value_named attributes (codes "version")) then starts_sheet else strange
 
 -- a value of `on-no-match`
 abbrev pub mode_token_for : Option (List ℕ) → Token
@@ -64,7 +64,7 @@ mode_token_for v =
 -- the start of a mode has two attributes: `streamable`, which is yes, and `on-no-match`
 abbrev pub mode_token : List Attribute → Token
 mode_token attributes =
-    if length attributes == 2 && is_value (codes "yes") (value_of attributes (codes "streamable")) then mode_token_for (value_of attributes (codes "on-no-match"))
+    if length attributes == 2 && is_value (codes "yes") (value_named attributes (codes "streamable")) then mode_token_for (value_named attributes (codes "on-no-match"))
     else strange
 
 -- a value of `match`: a name of letters
@@ -74,7 +74,7 @@ template_token_for (Some v) = if is_plain_name v then starts_template v else str
 
 -- the start of a template has the one attribute `match`
 abbrev pub template_token : List Attribute → Token
-template_token attributes = if length attributes == 1 then template_token_for (value_of attributes (codes "match")) else strange
+template_token attributes = if length attributes == 1 then template_token_for (value_named attributes (codes "match")) else strange
 
 -- a start without attributes
 abbrev pub if_bare : List Attribute → Token → Token
@@ -106,17 +106,17 @@ token_of (tree.instructs target content) = None
 token_of tree.closes = Some closes
 
 -- a text of white space alone, which counts in `xsl:text` only
-abbrev pub is_blank : Token → Bool
-is_blank starts_sheet = false
-is_blank (starts_mode m) = false
-is_blank (starts_template n) = false
-is_blank (starts_literal n) = false
-is_blank starts_text = false
-is_blank starts_apply = false
-is_blank ends = false
-is_blank (says s) = list_all is_white_space s
-is_blank closes = false
-is_blank strange = false
+abbrev pub is_blank_token : Token → Bool
+is_blank_token starts_sheet = false
+is_blank_token (starts_mode m) = false
+is_blank_token (starts_template n) = false
+is_blank_token (starts_literal n) = false
+is_blank_token starts_text = false
+is_blank_token starts_apply = false
+is_blank_token ends = false
+is_blank_token (says s) = list_all is_white_space s
+is_blank_token closes = false
+is_blank_token strange = false
 
 -- whether the content of an `xsl:text` may stand behind this, where it did or did not before
 abbrev pub is_in_text : Bool → Token → Bool
@@ -138,7 +138,7 @@ pub record LinedToken : Type 0 where
 
 -- a token that counts, in front of others
 abbrev pub put_token : Bool → Token → ℕ → List LinedToken → List LinedToken
-put_token inside t line rest = if is_blank t && not inside then rest else record { token = t; line = line } ∷ rest
+put_token inside t line rest = if is_blank_token t && not inside then rest else record { token = t; line = line } ∷ rest
 
 -- what comes with an event that says this, if it says anything, where these come behind it in either case
 abbrev pub put_said : Bool → Option Token → ℕ → (Bool → List LinedToken) → List LinedToken
@@ -156,6 +156,6 @@ abbrev pub tokens_of : NameTable → List LinedEvent → List LinedToken
 tokens_of names events = tokens_from names events false
 
 -- the table has the names in all events
-abbrev pub AreKnown : NameTable → List LinedEvent → Type 0
-AreKnown names [] = Unit {0}
-AreKnown names (e ∷ es) = IsKnown names e.event × AreKnown names es
+abbrev pub AreKnownEvents : NameTable → List LinedEvent → Type 0
+AreKnownEvents names [] = Unit {0}
+AreKnownEvents names (e ∷ es) = IsKnown names e.event × AreKnownEvents names es

@@ -1,7 +1,7 @@
 // What the definitions come to.
 ghost use Rattle.std.specs.Prelude.{◌≡◌, ℕ, List};
 ghost use Rattle.std.specs.List.{Contains};
-ghost use Rattle.sx_sheet.specs.Syntax.{IsThin, BreaksBehind, BreaksOn, IsClosed, tokens_in, lines_in};
+ghost use Rattle.sx_sheet.specs.Syntax.{IsThin, BreaksAfter, BreaksOn, IsClosed, tokens_in, lines_in};
 ghost use Rattle.sx_sheet.specs.Tokens.{Token, LinedToken};
 
 /// What breaks off is no thin stylesheet.
@@ -12,7 +12,7 @@ pub fn broken_or_thin()
 
 /// What breaks off does so at one place only.
 pub fn one_break()
-    ensures { (tokens : List Token) (a b : ℕ) → BreaksBehind tokens a → BreaksBehind tokens b
+    ensures { (tokens : List Token) (a b : ℕ) → BreaksAfter tokens a → BreaksAfter tokens b
         → a ≡ b }
 {}
 

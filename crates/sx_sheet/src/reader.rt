@@ -4,7 +4,7 @@ ghost use Rattle.std.specs.Prelude.{Option, option_map, reverse};
 ghost use Rattle.sx_named.specs.Named.{Name};
 ghost use Rattle.sx_names.specs.Numbering.{NameTable, KeepsPlaces};
 ghost use Rattle.sx_sheet.specs.Machine as machine;
-ghost use Rattle.sx_sheet.specs.Machine.{state_of};
+ghost use Rattle.sx_sheet.specs.Machine.{state_of_reader};
 ghost use Rattle.sx_sheet.specs.Numbers as numbers;
 ghost use Rattle.sx_sheet.specs.Shown.{shown, IsShown};
 ghost use Rattle.sx_sheet.specs.Steps.{StepsTo, StepsAs, StepsAt, StepsWithout};
@@ -117,7 +117,7 @@ fn template_start(count: u64, line: u64, name: u64) -> TemplateStart
 impl Reader {
     /// A reader that was given no token.
     pub fn new(alloc: Global) -> Reader
-        ensures { state_of 0 result ≡ machine.start }
+        ensures { state_of_reader 0 result ≡ machine.first_state }
     {
         Reader {
             stage: Stage::Sheet,
@@ -288,7 +288,8 @@ impl Reader {
     ) -> Result<Option<Reader>, AllocError>
         requires { self.constructs < 2 ^ 62 }
         ensures step { IfOk result
-            (λ r. StepsAt (λ look state shows. machine.inside look line template state shows) token.entry
+            (λ r. StepsAt (λ look state shows. machine.inside_template look line template state shows)
+            token.entry
             self r) }
         ensures near { IfOk result (λ r. IfSome r (λ n. n.constructs ≤ self.constructs + 2)) }
     {
@@ -375,7 +376,7 @@ impl Reader {
         requires known { IsShown names.old token }
         ensures kept { KeepsPlaces names.old names.new }
         ensures step { IfOk result
-            (λ r. StepsAs (λ look state. machine.step look line state (shown names.old token.entry))
+            (λ r. StepsAs (λ look state. machine.next_state look line state (shown names.old token.entry))
             names.new self r) }
         ensures near { IfOk result (λ r. IfSome r (λ n. n.constructs ≤ self.constructs + 2)) }
     {

@@ -5,7 +5,7 @@ ghost use Rattle.sx_names.specs.Numbering.{KeepsPlaces, IsDistinct};
 ghost use Rattle.sx_sheet.specs.Numbers as numbers;
 ghost use Rattle.sx_sheet.specs.Numbers.{IsSheetOf};
 ghost use Rattle.sx_sheet.specs.Syntax.{BreaksOn};
-ghost use Rattle.sx_sheet.specs.Tokens.{tokens_of, AreKnown};
+ghost use Rattle.sx_sheet.specs.Tokens.{tokens_of, AreKnownEvents};
 
 use crate::reader::Reader;
 use crate::running::run;
@@ -74,10 +74,10 @@ pub fn read(
 ) -> Result<Result<Sheet, StaticFault>, AllocError>
     ensures kept { KeepsPlaces names.old names.new }
     ensures distinct { IsDistinct names.new }
-    ensures sheet { IfOk result (λ answer. IfOk answer (λ sheet. AreKnown names.old events.now
+    ensures sheet { IfOk result (λ answer. IfOk answer (λ sheet. AreKnownEvents names.old events.now
         → IsSheetOf (tokens_of names.old events.now) names.new sheet)) }
     ensures fault { IfOk result (λ answer. IfErr answer (λ f. f.code ≡ Xtse0010)) }
-    ensures line { IfOk result (λ answer. IfErr answer (λ f. AreKnown names.old events.now
+    ensures line { IfOk result (λ answer. IfErr answer (λ f. AreKnownEvents names.old events.now
         → BreaksOn (tokens_of names.old events.now) f.line)) }
 {
     let read = run(alloc, events, names);

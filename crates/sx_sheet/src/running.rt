@@ -2,7 +2,7 @@
 ghost use Rattle.std.specs.Prelude.{IfOk};
 ghost use Rattle.sx_names.specs.Numbering.{KeepsPlaces};
 ghost use Rattle.sx_sheet.specs.Looking.{Results};
-ghost use Rattle.sx_sheet.specs.Tokens.{AreKnown};
+ghost use Rattle.sx_sheet.specs.Tokens.{AreKnownEvents};
 
 use crate::reader::Reader;
 use crate::reading::LinedEvents;
@@ -17,7 +17,7 @@ pub(crate) fn run(
     names: &mut Names,
 ) -> Result<Result<Reader, u64>, AllocError>
     ensures kept { KeepsPlaces names.old names.new }
-    ensures results { IfOk result (λ r. AreKnown names.old events.now
+    ensures results { IfOk result (λ r. AreKnownEvents names.old events.now
         → Results names.old names.new events.now r) }
 {
     let mut reader = Reader::new(alloc);

@@ -79,7 +79,7 @@ fn is_plain(names: &Names, number: u64, local: &str) -> bool
 // The value of the attribute of this local name in no namespace.
 fn value_of<'a>(attrs: &'a [Attr], names: &Names, local: &str) -> Option<&'a str>
     ensures { option_map (λ v. v.now) result
-        ≡ said.value_of (attributes_at names.now attrs.now) local.now }
+        ≡ said.value_named (attributes_at names.now attrs.now) local.now }
 {
     for attr in attrs {
         if is_plain(names, attr.label.number, local) {
@@ -174,8 +174,11 @@ fn is_unprefixed(label: &Label) -> bool
 
 fn start_token<'a>(label: &Label, attrs: &'a [Attr], names: &Names) -> Token<'a>
     ensures token { shown names.now result
-        ≡ said.start_token (record { name = name_at names.now label.now; attributes = attributes_at
-        names.now attrs.now; spaces = [] }) }
+        ≡ said.start_token (record {
+          name = name_at names.now label.now;
+          attributes = attributes_at names.now attrs.now;
+          spaces = [];
+        }) }
 {
     let (uri, local) = name_of(names, label.number);
     if uri == XSLT_NAMESPACE {
@@ -211,7 +214,7 @@ pub(crate) fn token_of<'a>(event: &'a Event, names: &Names) -> Option<Token<'a>>
 impl<'a> Token<'a> {
     // Whether it is a text of white space alone, which counts in `xsl:text` only (XSLT 3.0, 4.3).
     fn is_blank(self) -> bool
-        ensures { (names : NameTable) → result ≡ said.is_blank (shown names self.entry) }
+        ensures { (names : NameTable) → result ≡ said.is_blank_token (shown names self.entry) }
     {
         match self {
             Token::Says(text) => are_white_space(text.as_bytes()),
@@ -221,7 +224,8 @@ impl<'a> Token<'a> {
 
     /// Whether it does not count, where the content of an `xsl:text` may or may not stand in front of it.
     pub fn is_skipped(self, in_text: bool) -> bool
-        ensures { (names : NameTable) → result ≡ (said.is_blank (shown names self.entry) && not in_text) }
+        ensures { (names : NameTable)
+            → result ≡ (said.is_blank_token (shown names self.entry) && not in_text) }
     {
         self.is_blank() && !in_text
     }

@@ -13,7 +13,7 @@ use Rattle.sx_events.specs.Course.{Lined, events_of}
 use Rattle.sx_sheet.specs.declared.reading.LinedEvent.{LinedEvent}
 use Rattle.sx_sheet.specs.Numbers.{IsSheetOf, literal_with, text_with, apply_with, label_of}
 use Rattle.sx_sheet.specs.Syntax.{tokens_in}
-use Rattle.sx_sheet.specs.Tokens.{Token, LinedToken, token_of, is_blank, is_in_text, put_said, put_token, tokens_from, tokens_of}
+use Rattle.sx_sheet.specs.Tokens.{Token, LinedToken, token_of, is_blank_token, is_in_text, put_said, put_token, tokens_from, tokens_of}
 use Rattle.sx_sheet.proofs.Known.{AreBuilt, names_known}
 use Rattle.sx_sheet.proofs.Told.{IsTold, token_told}
 use Rattle.sx_machine.specs.Body.{Body, literal, words, apply, body_of, instr_in_front, layer, IsKnownBody, AreKnown}
@@ -49,7 +49,7 @@ put_told false t line rest h k = (h, k)
 
 said_told : (b : Bool) (o : Option Token) (line : ℕ) (rest : Bool → List LinedToken) → IfSome o IsTold → ((c : Bool) → AllTold (tokens_in (rest c))) → AllTold (tokens_in (put_said b o line rest))
 said_told b None line rest h k = k b
-said_told b (Some t) line rest h k = put_told (is_blank t && not b) t line (rest (is_in_text b t)) h (k (is_in_text b t))
+said_told b (Some t) line rest h k = put_told (is_blank_token t && not b) t line (rest (is_in_text b t)) h (k (is_in_text b t))
 
 all_told : (ls : List Lined) (b : Bool) → AllTold (tokens_in (said_by ls b))
 all_told [] b = tt

@@ -8,7 +8,7 @@ use Rattle.sx_tree.specs.Tree.{TreeEvent, Forest, none, text, instruction, eleme
 use Rattle.sx_tree.specs.Mapping.{map_forest}
 use Rattle.sx_tree.proofs.Open.{tree_of-snoc}
 use Rattle.sx_tree.proofs.Mapping.{tree_of-map}
-use Rattle.sx_events.specs.Course.{Lined, Course, course, course_of, reading, by_fault, put_events, run_in, run_of, then_here, begun, instruction as instruction_of, events_at, behind, last_events, closing, break_of, events_of, whats}
+use Rattle.sx_events.specs.Course.{Lined, Course, course, course_of, reading, by_fault, put_events, run_in, run_of, then_here, element_begun, instruction as instruction_of, events_at, place_behind, last_events, closing, break_of, events_of, whats}
 use Rattle.sx_events.specs.Place.{Place, beginning, spaces_of, ordinary, scope_with, attributes_in, fault_of, start_fault, declares_twice, has_bad, is_bound_prefix, all_bound, has_double, is_root_closed, is_of_element, needs_root, may_follow_attributes, is_mismatch, most_open}
 use Rattle.sx_events.proofs.Growths.{whats-append}
 use Rattle.sx_events.proofs.Nests.{Nests, Next, run_follows, course_follows}
@@ -99,7 +99,7 @@ deep_run : (es : Events) (s : List ℕ) (line : ℕ) → Deep es → Deep (es ++
 deep_run es [] line deep = deep_nothing es deep
 deep_run es (b ∷ bs) line deep = deep_text es (b ∷ bs) deep
 
--- something behind the run of text
+-- something place_behind the run of text
 deep_then : (es : Events) (p : Place) (h : TreeEvent ElementStart) → Deep ((es ++ whats (run_of p)) ++ h ∷ []) → Deep (es ++ whats (then_here p h))
 deep_then es p h deep =
     subst (λ (q : Events). Deep (es ++ q)) (sym (whats-append (run_of p) (record { what = h; line = suc p.lines } ∷ [])))
@@ -137,8 +137,8 @@ deep_line : (limits : Limits) (es : Events) (p : Place) (l : Line) → Nests es 
 deep_line limits es p (starts name) nests fit deep =
     let run = run_follows es p nests in
     let few = few_open limits p name fit in
-    deep_then es p (tree.starts (begun p name))
-    (deep_start (es ++ whats (run_of p)) (begun p name) (omega (arith, few, run.stage.depth)) (deep_run es p.text p.text_line deep))
+    deep_then es p (tree.starts (element_begun p name))
+    (deep_start (es ++ whats (run_of p)) (element_begun p name) (omega (arith, few, run.stage.depth)) (deep_run es p.text p.text_line deep))
 deep_line limits es p (ends name) nests fit deep = deep_then es p tree.ends (deep_end (es ++ whats (run_of p)) (deep_run es p.text p.text_line deep))
 deep_line limits es p (has name value) nests fit deep = deep_run es p.text p.text_line deep
 deep_line limits es p (lacks name) nests fit deep = deep_run es p.text p.text_line deep
@@ -147,12 +147,12 @@ deep_line limits es p (instructs s) nests fit deep = deep_then es p (instruction
 deep_line limits es p skips nests fit deep = deep_nothing es deep
 deep_line limits es p conforms nests fit deep = deep_run es p.text p.text_line deep
 
--- the place behind a line
+-- the place place_behind a line
 one_line : (f : Option Which) (es : Events) (p : Place) (l : Line) → f ≡ None
-    → Next es (whats (by_fault p f (put_events (events_at p l) (record { events = []; place = behind p l; fault = None }))).events) (by_fault p f (put_events (events_at p l) (record { events = []; place = behind p l; fault = None }))).place
-    → Nests (es ++ whats (events_at p l)) (behind p l)
+    → Next es (whats (by_fault p f (put_events (events_at p l) (record { events = []; place = place_behind p l; fault = None }))).events) (by_fault p f (put_events (events_at p l) (record { events = []; place = place_behind p l; fault = None }))).place
+    → Nests (es ++ whats (events_at p l)) (place_behind p l)
 one_line (Some w) es p l sound next = absurd (cc)
-one_line None es p l sound next = subst (λ (here : List Lined). Nests (es ++ whats here) (behind p l)) (append-nil (events_at p l)) next.nests
+one_line None es p l sound next = subst (λ (here : List Lined). Nests (es ++ whats here) (place_behind p l)) (append-nil (events_at p l)) next.nests
 
 deep_step : (f : Option Which) (es : Events) (p : Place) (here : List Lined) (c : Course) → Deep es → (f ≡ None → Deep ((es ++ whats here) ++ whats c.events)) → Deep (es ++ whats (by_fault p f (put_events here c)).events)
 deep_step (Some w) es p here c deep more = deep_nothing es deep
@@ -162,8 +162,8 @@ deep_step None es p here c deep more =
 deep_course : (limits : Limits) (p : Place) (ls : List Line) (es : Events) → Nests es p → Deep es → Deep (es ++ whats (course limits p ls).events)
 deep_course limits p [] es nests deep = deep_nothing es deep
 deep_course limits p (l ∷ ls) es nests deep =
-    deep_step (fault_of limits p l) es p (events_at p l) (course limits (behind p l) ls) deep
-    (λ sound. deep_course limits (behind p l) ls (es ++ whats (events_at p l))
+    deep_step (fault_of limits p l) es p (events_at p l) (course limits (place_behind p l) ls) deep
+    (λ sound. deep_course limits (place_behind p l) ls (es ++ whats (events_at p l))
     (one_line (fault_of limits p l) es p l sound (course_follows limits p (l ∷ []) es nests))
     (deep_line limits es p l nests sound deep))
 

@@ -2,7 +2,7 @@
 use Rattle.std.proofs.Common.{◌≡◌, ◌≢◌, ◌⊎◌, inl, inr, ℕ, zero, suc, ◌^◌, ◌≤◌, Bool, true, false, List, [], ◌∷◌, ◌++◌, length, slice_get, Option, Some, None, is_some, Ok, Err, refl, ap, ap₂, sym, ◌∙◌, subst, append_assoc, append-nil, arith}
 use Rattle.std.proofs.lemmas.List.{length-append}
 use Rattle.sx_events.specs.Course.{Lined, events_of, break_of, whats, line_behind}
-use Rattle.sx_events.specs.Laws.{AllFollow, Grows}
+use Rattle.sx_events.specs.Laws.{AllFollow, EventsGrow}
 use Rattle.sx_events.specs.Reader as reader
 use Rattle.sx_events.specs.declared.event_reader.EventReader.{EventReader}
 use Rattle.sx_events.proofs.Growths.{grows, broken_stays}
@@ -269,7 +269,7 @@ module _ {T : Type 0} (Stands : T → Meaning → NameTable → List Lined → L
     }
 
     -- the reader waits for more
-    pub after_none : reader.Gives m.limits names b ended (length front) r None
+    pub after_none : reader.GivesEvent m.limits names b ended (length front) r None
         → FeederStands Stands m (record { reader = r; names = names; taker = old.taker; outcome = old.outcome }) b ended w
     after_none gives =
         subst (λ (o : Option Outcome). FeederStands Stands m (record { reader = r; names = names; taker = old.taker; outcome = o }) b ended w) (sym g.outcome)
@@ -284,7 +284,7 @@ module _ {T : Type 0} (Stands : T → Meaning → NameTable → List Lined → L
         })
 
     -- the bytes are broken off
-    pub after_fault : (i : Input) (f : DocFault) → i ≡ m.input → reader.Gives m.limits names b ended (length front) r (Some (Err f))
+    pub after_fault : (i : Input) (f : DocFault) → i ≡ m.input → reader.GivesEvent m.limits names b ended (length front) r (Some (Err f))
         → FeederStands Stands m (record { reader = r; names = names; taker = old.taker; outcome = Some (outcomes.Broken i f) }) b ended w
     after_fault i f is gives = record {
       steady = steady;
@@ -302,7 +302,7 @@ module _ {T : Type 0} (Stands : T → Meaning → NameTable → List Lined → L
     }
 
     -- an event comes
-    module _ (e : Event) (line : ℕ) (gives : reader.Gives m.limits names b ended (length front) r (Some (Ok e))) (line_is : line ≡ line_behind events (suc (length front)))
+    module _ (e : Event) (line : ℕ) (gives : reader.GivesEvent m.limits names b ended (length front) r (Some (Ok e))) (line_is : line ≡ line_behind events (suc (length front)))
         (taker : T) (takes : Takes Stands old.taker taker names e line) (outcome : Option Outcome) where
       abbrev event : Lined
       event = lined names e line
@@ -403,7 +403,7 @@ module _ {T : Type 0} (Stands : T → Meaning → NameTable → List Lined → L
     end_stays : (o : Outcome) (d : List ℕ) (ended : Bool) → Ended Stands m old o b false w → Ended Stands m old o (b ++ d) ended w
     end_stays o d ended e = by e.end
       where
-        grow : Grows m.limits b d ended
+        grow : EventsGrow m.limits b d ended
         grow = grows m.limits b d ended
 
         by : (m.outcome e.given.front ≡ Some o) ⊎ BreaksOff Stands m o b false e.given.front e.given.rest → Ended Stands m old o (b ++ d) ended w

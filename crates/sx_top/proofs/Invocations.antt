@@ -13,7 +13,7 @@ use Rattle.sx_limits.specs.declared.faults.DocFault.{DocFault}
 use Rattle.sx_machine.specs.Body.{Body, nil, literal, copies, words, apply}
 use Rattle.sx_machine.specs.Choice.{chosen_for}
 use Rattle.sx_machine.specs.Meaning.{is_copying_first, meaning_on}
-use Rattle.sx_machine.specs.Run.{Ending, done, waits, stops, ending_with, Output, nothing, gives, behind, next, wrap, run_body, copied_attributes, copied_instruction, invoked, children, for_each, loop, child, meaning}
+use Rattle.sx_machine.specs.Run.{Ending, done, waits, stops, ending_with, Output, nothing, gives, output_behind, next, wrap, run_body, copied_attributes, copied_instruction, invoked, children, for_each, loop, child, meaning}
 use Rattle.sx_names.specs.Numbering.{NameTable}
 use Rattle.sx_events.specs.Course.{break_of}
 use Rattle.sx_reading.specs.declared.consumer.Outcome.TheVariants as outcomes
@@ -25,7 +25,7 @@ use Rattle.sx_top.proofs.Depths.{nests_more, happened_nests}
 abbrev IsShallow : Ending → Type 0
 IsShallow e = e ≢ stops Sxli0001
 
-shallow_behind : (raws : List Asked) (e : Ending) (b : Output) → IsShallow e → IsShallow b.ending → IsShallow (behind raws e b).ending
+shallow_behind : (raws : List Asked) (e : Ending) (b : Output) → IsShallow e → IsShallow b.ending → IsShallow (output_behind raws e b).ending
 shallow_behind raws done b h k = k
 shallow_behind raws waits b h k = h
 shallow_behind raws (stops c) b h k = h

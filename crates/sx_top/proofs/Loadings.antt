@@ -12,7 +12,7 @@ use Rattle.sx_sheet.specs.Tokens.{LinedToken, tokens_of}
 use Rattle.sx_desk.specs.declared.desk.Out.TheVariants as out
 use Rattle.sx_reading.specs.Frame.{Frame}
 use Rattle.sx_reading.specs.Transforming.{nothing_written}
-use Rattle.sx_reading.specs.Program.{IsQuiet}
+use Rattle.sx_reading.specs.Program.{IsSilent}
 use Rattle.sx_reading.specs.declared.status.Status.{Status}
 use Rattle.sx_reading.specs.declared.status.Status.TheVariants as status
 use Rattle.sx_reading.proofs.Headlines.{opened_bytes, run_of}
@@ -41,7 +41,7 @@ pub unread_of : (name : List ℕ) (old mid new : Seen) (file : ℕ) (names : Nam
 unread_of name old mid new file names s opens reads = inl (record { not_ok = reads.failed; run = run_of nothing_written sheet_outcome name old mid new file s opens reads.transforms })
 
 -- opening and reading a file leave the diagnostic output as it is
-pub quiet_of : (name : List ℕ) (old mid new : Seen) (file : ℕ) → Opens name old mid (Ok file) → Frame file out.Result mid new → IsQuiet old new
+pub quiet_of : (name : List ℕ) (old mid new : Seen) (file : ℕ) → Opens name old mid (Ok file) → Frame file out.Result mid new → IsSilent old new
 quiet_of name old mid new file opens f = record {
   known = record { told = λ t. opens.known.told (f.known.told t); shown = λ h. opens.known.shown (f.known.shown h) };
   write_faults = f.other_faults out.Diagnostic (λ e. cc) ∙ opens.write_faults out.Diagnostic;

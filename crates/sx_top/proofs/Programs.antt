@@ -4,7 +4,7 @@ use Rattle.sx_desk.specs.Desk.{Seen}
 use Rattle.sx_desk.specs.declared.desk.Failed.{Failed}
 use Rattle.sx_desk.specs.declared.desk.Out.TheVariants as out
 use Rattle.sx_reading.specs.Frame.{Sends}
-use Rattle.sx_reading.specs.Program.{Untouched, IsQuiet}
+use Rattle.sx_reading.specs.Program.{Untouched, IsSilent}
 use Rattle.sx_reading.specs.declared.status.Status.{Status}
 use Rattle.sx_reading.specs.declared.status.Status.TheVariants as status
 use Rattle.sx_reading.proofs.Diagnostics.{untouched_after}
@@ -86,7 +86,7 @@ copies_by sheet names limits file old new s sheet_is names_are limits_are ran =
     (subst (λ (x : Sheet). Transforms (run_written x names limits) (run_outcome x names limits) file old new s) sheet_is (ran ready)))
 
 -- what two calls leave as it is
-pub quiet_then : (old mid new : Seen) → IsQuiet old mid → IsQuiet mid new → IsQuiet old new
+pub quiet_then : (old mid new : Seen) → IsSilent old mid → IsSilent mid new → IsSilent old new
 quiet_then old mid new a b = record {
   known = record { told = λ t. a.known.told (b.known.told t); shown = λ h. a.known.shown (b.known.shown h) };
   write_faults = b.write_faults ∙ a.write_faults;

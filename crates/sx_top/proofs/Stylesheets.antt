@@ -16,7 +16,7 @@ use Rattle.sx_events.specs.Course.{Lined, events_of, break_of, whats}
 use Rattle.sx_events.proofs.Growths.{whats-append}
 use Rattle.sx_events.proofs.Nests as nests
 use Rattle.sx_sheet.specs.declared.reading.LinedEvent.{LinedEvent}
-use Rattle.sx_sheet.specs.Tokens.{AreKnown}
+use Rattle.sx_sheet.specs.Tokens.{AreKnownEvents}
 use Rattle.sx_reading.specs.Transforming.{nothing_written, whole_outcome}
 use Rattle.sx_reading.specs.declared.consumer.Outcome.{Outcome}
 use Rattle.sx_reading.specs.declared.consumer.Outcome.TheVariants as outcomes
@@ -69,19 +69,19 @@ module _ (old new : Names) (kept : KeepsPlaces old new) where
   known_kept (event.Pi target content) h = tt
   known_kept event.Close h = tt
 
-  pub lined_kept : (es : List LinedEvent) → AreKnown old es → lined_at new es ≡ lined_at old es
+  pub lined_kept : (es : List LinedEvent) → AreKnownEvents old es → lined_at new es ≡ lined_at old es
   lined_kept [] h = refl
   lined_kept (e ∷ es) h =
       ap₂ (λ (x : TreeEvent ElementStart) (ls : List Lined). record { what = x; line = e.line } ∷ ls) (named_kept e.event h.0) (lined_kept es h.1)
 
-  pub all_known_kept : (es : List LinedEvent) → AreKnown old es → AreKnown new es
+  pub all_known_kept : (es : List LinedEvent) → AreKnownEvents old es → AreKnownEvents new es
   all_known_kept [] h = tt
   all_known_kept (e ∷ es) h = (known_kept e.event h.0, all_known_kept es h.1)
 
 -- ---- one event more
 
 module _ (names : Names) where
-  known_more : (es : List LinedEvent) (e : LinedEvent) → AreKnown names es → IsKnown names e.event → AreKnown names (es ++ e ∷ [])
+  known_more : (es : List LinedEvent) (e : LinedEvent) → AreKnownEvents names es → IsKnown names e.event → AreKnownEvents names (es ++ e ∷ [])
   known_more [] e h k = (k, tt)
   known_more (d ∷ es) e h k = (h.0, known_more es e h.1 k)
 
@@ -138,7 +138,7 @@ sheet_outcome_is b ended =
 pub fresh : (c : Collector) (names : Names) → c.events ≡ [] → Collects c collecting names [] []
 fresh c names events = record {
   means = refl;
-  known = subst (λ (es : List LinedEvent). AreKnown names es) (sym events) tt;
+  known = subst (λ (es : List LinedEvent). AreKnownEvents names es) (sym events) tt;
   are = ap (lined_at names) events;
   ordered = tt;
   nothing = refl;
@@ -150,7 +150,7 @@ pub collected : (old new : Collector) (m : Meaning) (known names : Names) (event
     → Collects new m names (events ++ lined names e line ∷ []) w
 collected old new m known names events w e line kept comes c is = record {
   means = c.means;
-  known = subst (λ (es : List LinedEvent). AreKnown names es) (sym is)
+  known = subst (λ (es : List LinedEvent). AreKnownEvents names es) (sym is)
       (known_more names old.events (record { event = e; line = line }) (all_known_kept known names kept old.events c.known) comes.known);
   are = ap (lined_at names) is ∙ lined_more names old.events (record { event = e; line = line })
       ∙ ap (λ (ls : List Lined). ls ++ lined names e line ∷ []) (lined_kept known names kept old.events c.known ∙ c.are);

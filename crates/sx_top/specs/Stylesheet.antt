@@ -10,7 +10,7 @@ use Rattle.sx_tree.specs.Tree.{tree_of}
 use Rattle.sx_tree.specs.declared.events.Event.{Event}
 use Rattle.sx_tree.specs.declared.events.Event.TheVariants as event
 use Rattle.sx_sheet.specs.declared.reading.LinedEvent.{LinedEvent}
-use Rattle.sx_sheet.specs.Tokens.{AreKnown}
+use Rattle.sx_sheet.specs.Tokens.{AreKnownEvents}
 use Rattle.sx_reading.specs.Transforming.{OutcomeFor, Transforms, nothing_written, whole_outcome, status_of_bytes, IsFailure}
 use Rattle.sx_reading.specs.declared.consumer.Outcome.{Outcome}
 use Rattle.sx_reading.specs.declared.consumer.Outcome.TheVariants as outcomes
@@ -64,14 +64,14 @@ collecting = record {
 -- These events, each with its line, were collected, by this table of names.
 pub record Collects (c : Collector) (m : Meaning) (names : NameTable) (events : List Lined) (w : List ℕ) : Type 0 where
   pub means : m ≡ collecting
-  pub known : AreKnown names c.events
+  pub known : AreKnownEvents names c.events
   pub are : lined_at names c.events ≡ events
   pub ordered : AreOrdered events
   pub nothing : w ≡ []
 
 -- These are all events of bytes that are not broken off and have ended, by this table of names.
 pub record AreEvents (names : NameTable) (events : List LinedEvent) (bytes : List ℕ) : Type 0 where
-  pub known : AreKnown names events
+  pub known : AreKnownEvents names events
   pub sound : break_of sheet_limits bytes true ≡ None
   pub are : lined_at names events ≡ events_of sheet_limits bytes true
 

@@ -1,5 +1,6 @@
 // From bytes to what takes their events.
-ghost use Rattle.std.specs.Prelude.{◌≡◌, ◌^◌, ◌≤◌, ◌++◌, [], List, ℕ, Bool, false, None, OnOk};
+ghost use Rattle.std.specs.Prelude.{◌≡◌, ◌^◌, ◌≤◌, ◌++◌, [], List, ℕ, Bool, false};
+ghost use Rattle.std.specs.Prelude.{None, OnOk};
 ghost use Rattle.sx_events.specs.Course.{Lined};
 ghost use Rattle.sx_names.specs.Numbering.{NameTable, IsDistinct, KeepsPlaces};
 ghost use Rattle.sx_top.specs.Feeding.{Meaning, Takes};

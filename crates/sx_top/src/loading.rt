@@ -1,7 +1,7 @@
 // From the name of a stylesheet to the stylesheet.
 ghost use Rattle.std.specs.Prelude.{◌≡◌, ◌+◌, ◌<◌, ◌≤◌, ◌^◌, ℕ, List, OnOk, length};
 ghost use Rattle.sx_names.specs.Numbering.{IsDistinct, KeepsPlaces};
-ghost use Rattle.sx_reading.specs.Program.{IsQuiet};
+ghost use Rattle.sx_reading.specs.Program.{IsSilent};
 ghost use Rattle.sx_top.specs.Loading.{Judged, Loads};
 ghost use Rattle.sx_top.specs.Stylesheet.{AreEvents};
 
@@ -17,7 +17,8 @@ use sx_sheet::LinedEvents;
 
 // The stylesheet that the events are, where it can be streamed (XSLT 3.0, 19.8.3).
 fn accept(alloc: Global, events: &LinedEvents, names: &mut Names) -> Result<Sheet, Status>
-    ensures judged { (bytes : List ℕ) → AreEvents names.old events.now bytes → Judged bytes names.new result }
+    ensures judged { (bytes : List ℕ) → AreEvents names.old events.now bytes
+        → Judged bytes names.new result }
     ensures kept { KeepsPlaces names.old names.new }
     ensures distinct { IsDistinct names.new }
 {
@@ -50,7 +51,7 @@ pub fn load<D: Desk>(
 ) -> Result<Sheet, Status>
     requires { length (D.seen desk.old).opened < 2 ^ 31 }
     ensures loads { Loads name.now names.new (D.seen desk.old) (D.seen desk.new) result }
-    ensures quiet { IsQuiet (D.seen desk.old) (D.seen desk.new) }
+    ensures quiet { IsSilent (D.seen desk.old) (D.seen desk.new) }
     ensures opened { length (D.seen desk.new).opened ≤ length (D.seen desk.old).opened + 1 }
 {
     let file = match desk.open_file(name) {

@@ -1,5 +1,6 @@
 // The whole program.
-ghost use Rattle.std.specs.Prelude.{◌≡◌, ◌<◌, ◌≤◌, ◌^◌, [], ◌∷◌, IsTrue, IfOk, length, map, string_bytes};
+ghost use Rattle.std.specs.Prelude.{◌≡◌, ◌<◌, ◌≤◌, ◌^◌, [], ◌∷◌, IsTrue, IfOk};
+ghost use Rattle.std.specs.Prelude.{length, map, string_bytes};
 ghost use Rattle.sx_desk.specs.declared.desk.Out.TheVariants as out;
 ghost use Rattle.sx_limits.specs.Limits.{stated};
 ghost use Rattle.sx_kinds.specs.declared.sheets.OnNoMatch.TheVariants as unmatched;
@@ -8,7 +9,7 @@ ghost use Rattle.sx_reading.specs.Answers.{diagnostic_of};
 ghost use Rattle.sx_reading.specs.Frame.{Frame};
 ghost use Rattle.sx_reading.specs.Transforming.{Transforms};
 ghost use Rattle.sx_reading.specs.Headline.{Headline};
-ghost use Rattle.sx_reading.specs.Program.{IsQuiet, Says};
+ghost use Rattle.sx_reading.specs.Program.{IsSilent, Says};
 ghost use Rattle.sx_top.specs.Commands.{Does, Runs, RunsSheet};
 ghost use Rattle.sx_top.specs.Copy.{copy_sheet, copy_written, copy_outcome};
 ghost use Rattle.sx_top.specs.Words.{requested, requested_of};
@@ -69,7 +70,7 @@ fn copy<D: Desk>(alloc: Global, name: &str, desk: &mut D) -> Status
     requires { length (D.seen desk.old).opened < 2 ^ 31 }
     ensures headline { Headline copy_written copy_outcome name.now
         (D.seen desk.old) (D.seen desk.new) result }
-    ensures quiet { IsQuiet (D.seen desk.old) (D.seen desk.new) }
+    ensures quiet { IsSilent (D.seen desk.old) (D.seen desk.new) }
 {
     match desk.open_file(name) {
         Ok(file) => copy_opened(alloc, file, desk),
@@ -87,9 +88,10 @@ fn run_on<D: Desk>(
 ) -> Status
     requires { length (D.seen desk.old).opened ≤ 2 ^ 31 }
     ensures headline { IsReady sheet.now names.old
-        → Headline (run_written sheet.now names.old stated) (run_outcome sheet.now names.old stated) name.now
+        → Headline (run_written sheet.now names.old stated) (run_outcome sheet.now names.old stated)
+        name.now
         (D.seen desk.old) (D.seen desk.new) result }
-    ensures quiet { IsQuiet (D.seen desk.old) (D.seen desk.new) }
+    ensures quiet { IsSilent (D.seen desk.old) (D.seen desk.new) }
 {
     match desk.open_file(name) {
         Ok(file) => transform(alloc, sheet, names, &Limits::stated(), file, desk),
@@ -101,7 +103,7 @@ fn run_on<D: Desk>(
 fn run<D: Desk>(alloc: Global, sheet: &str, document: &str, desk: &mut D) -> Status
     requires { length (D.seen desk.old).opened < 2 ^ 31 }
     ensures runs { RunsSheet sheet.now document.now (D.seen desk.old) (D.seen desk.new) result }
-    ensures quiet { IsQuiet (D.seen desk.old) (D.seen desk.new) }
+    ensures quiet { IsSilent (D.seen desk.old) (D.seen desk.new) }
 {
     let mut names = sx_names::new(alloc);
     match load(alloc, sheet, &mut names, desk) {
@@ -114,7 +116,7 @@ fn run<D: Desk>(alloc: Global, sheet: &str, document: &str, desk: &mut D) -> Sta
 fn carry_out<D: Desk>(alloc: Global, command: Command<'_>, desk: &mut D) -> Status
     requires { length (D.seen desk.old).opened < 2 ^ 31 }
     ensures does { Does (requested_of command.entry) (D.seen desk.old) (D.seen desk.new) result }
-    ensures quiet { IsQuiet (D.seen desk.old) (D.seen desk.new) }
+    ensures quiet { IsSilent (D.seen desk.old) (D.seen desk.new) }
 {
     match command {
         Command::Copy(document) => copy(alloc, document, desk),

@@ -36,7 +36,8 @@ pub fn transform<D: Desk>(
     requires given { file < length (D.seen desk.old).opened }
     requires untouched { IsTrue (D.seen desk.old).told → (D.seen desk.old).taken file ≡ 0 }
     ensures runs { IsReady sheet.now names.old
-        → Transforms (run_written sheet.now names.old limits.now) (run_outcome sheet.now names.old limits.now)
+        → Transforms (run_written sheet.now names.old limits.now)
+        (run_outcome sheet.now names.old limits.now)
         file (D.seen desk.old) (D.seen desk.new) result }
     ensures kept { KeepsPlaces names.old names.new }
     ensures frame { Frame file out.Result (D.seen desk.old) (D.seen desk.new) }

@@ -14,8 +14,8 @@ pub record IsCounted (events : List Event) (limit nodes : ℕ) (is_open : Bool) 
   pub ended : is_open ≡ false → has_open (tree_of (tree_events events)).content ≡ false
 
 -- what contracts see of it
-abbrev pub value_of : Inside → OpenTree
-value_of t = record { limit = t.limit; events = t.events }
+abbrev pub open_tree_of : Inside → OpenTree
+open_tree_of t = record { limit = t.limit; events = t.events }
 
 -- its number of nodes and its mark are those of its events
 abbrev pub IsOpenTree : Inside → Type 0

@@ -38,14 +38,14 @@ module _ {E : Type 0} where
   last_is_text before (h ∷ p) = last_is_text (is_text h) p
 
   -- whether the last that happened is a text
-  abbrev pub ends_in_text : List (TreeEvent E) → Bool
-  ends_in_text p = last_is_text false p
+  abbrev pub is_behind_text : List (TreeEvent E) → Bool
+  is_behind_text p = last_is_text false p
 
   -- An end has an open element, a text has characters and is not behind a text, and no element is open at the close.
   abbrev pub IsAllowed : List (TreeEvent E) → TreeEvent E → Type 0
   IsAllowed p (starts e) = Unit {0}
   IsAllowed p ends = has_open (tree_of p).content ≡ true
-  IsAllowed p (says s) = (s ≢ []) × (ends_in_text p ≡ false)
+  IsAllowed p (says s) = (s ≢ []) × (is_behind_text p ≡ false)
   IsAllowed p (instructs target content) = Unit {0}
   IsAllowed p closes = has_open (tree_of p).content ≡ false
 

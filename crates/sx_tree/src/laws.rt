@@ -17,5 +17,6 @@ pub fn steps()
 
 /// More events only add nodes, and what has ended stays so.
 pub fn growth()
-    ensures { (p q : List (TreeEvent Element)) → MayCome [] p → MayCome p q → PlacesGrow (places_of p) (places_of (p ++ q)) }
+    ensures { (p q : List (TreeEvent Element)) → MayCome [] p → MayCome p q
+        → PlacesGrow (places_of p) (places_of (p ++ q)) }
 {}

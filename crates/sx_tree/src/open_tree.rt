@@ -29,9 +29,9 @@ impl Model for OpenTree {
 
     ghost Value = { Growing };
 
-    ghost use Rattle.sx_tree.specs.Counted.{value_of, IsOpenTree};
+    ghost use Rattle.sx_tree.specs.Counted.{open_tree_of, IsOpenTree};
 
-    ghost view = { value_of };
+    ghost view = { open_tree_of };
 
     ghost invariant = { IsOpenTree };
 }

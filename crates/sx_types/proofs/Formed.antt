@@ -1,7 +1,7 @@
 -- Settling takes no part away and puts none in.
 use Rattle.std.proofs.Common.{◌≡◌, ℕ, Bool, List, [], ◌∷◌, length, map, ◌&&◌, refl, ap, sym, ◌∙◌}
 use Rattle.sx_kinds.specs.Formed.{all_so, formed, has_parts}
-use Rattle.sx_kinds.specs.Settled.{Place, bare, bare_deep, bare_form, settled}
+use Rattle.sx_kinds.specs.Settled.{TypingPlace, bare, bare_deep, bare_form, settled_expression}
 use Rattle.sx_kinds.specs.declared.expressions.Expr.{Expr}
 use Rattle.sx_kinds.specs.declared.expressions.Expr.TheOpen.{Expr-F}
 use Rattle.sx_kinds.specs.declared.expressions.Expr.TheViews.{roll-Expr}
@@ -42,6 +42,6 @@ roll_same takes x ps is =
 bare_formed : (takes : Function → ℕ → Bool) (e : Expr) → SameFormed takes e
 bare_formed takes = ind-Expr (SameFormed takes) (λ x y is. roll_same takes x y.parts (ap (λ (z : Expr-F Expr). z.parts) is))
 
-pub settled_same_formed : (takes : Function → ℕ → Bool) (e : Expr) (here : Place) → formed takes (settled e here) ≡ formed takes e
+pub settled_same_formed : (takes : Function → ℕ → Bool) (e : Expr) (here : TypingPlace) → formed takes (settled_expression e here) ≡ formed takes e
 settled_same_formed takes e here =
-    sym (bare_formed takes (settled e here)) ∙ ap (formed takes) (settled_bare e here) ∙ bare_formed takes e
+    sym (bare_formed takes (settled_expression e here)) ∙ ap (formed takes) (settled_bare e here) ∙ bare_formed takes e

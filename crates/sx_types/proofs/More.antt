@@ -3,7 +3,7 @@ use Rattle.std.proofs.Common.{◌≡◌, Bool, true, false, ◌&&◌, ◌||◌, 
 use Rattle.std.specs.Prelude.{if◌then◌else◌}
 use Rattle.std.proofs.lemmas.List.Folds.{list_any-append}
 use Rattle.std.specs.List.{list_any}
-use Rattle.sx_kinds.specs.Types.{all_source, comma_origin, first_of, is_positional, is_source, joined, joined_all, joined_start, may_be_node, origins, parts_of, second_of, start_of_all, third_of}
+use Rattle.sx_kinds.specs.Types.{all_source, comma_origin, first_typing, is_positional, is_source, joined_kind, joined_all, joined_start, may_be_node, origins, parts_of_typings, second_of, start_of_all, third_of}
 use Rattle.sx_kinds.specs.declared.types.Origin.{Origin}
 use Rattle.sx_kinds.specs.declared.types.Origin.TheVariants.{Source, One, Separate, Forest}
 use Rattle.sx_kinds.specs.declared.types.Parts.{Parts}
@@ -14,11 +14,11 @@ use Rattle.sx_kinds.specs.declared.types.Start.TheVariants as starts
 use Rattle.sx_kinds.specs.declared.types.Typing.{Typing}
 use Rattle.sx_types.specs.Added.{added, behind_with, first_with, joined_origin, origin_with}
 
-first_more : (ts : List Typing) (t : Typing) → first_of (ts ++ t ∷ []) ≡ first_with (first_of ts) t
+first_more : (ts : List Typing) (t : Typing) → first_typing (ts ++ t ∷ []) ≡ first_with (first_typing ts) t
 first_more [] t = refl
 first_more (u ∷ us) t = refl
 
-second_more : (ts : List Typing) (t : Typing) → second_of (ts ++ t ∷ []) ≡ behind_with (first_of ts) (second_of ts) t
+second_more : (ts : List Typing) (t : Typing) → second_of (ts ++ t ∷ []) ≡ behind_with (first_typing ts) (second_of ts) t
 second_more [] t = refl
 second_more (u ∷ us) t = first_more us t
 
@@ -26,9 +26,9 @@ third_more : (ts : List Typing) (t : Typing) → third_of (ts ++ t ∷ []) ≡ b
 third_more [] t = refl
 third_more (u ∷ us) t = second_more us t
 
-kind_more : (kind : TyKind) (ts : List Typing) (t : Typing) → joined_all kind (ts ++ t ∷ []) ≡ joined (joined_all kind ts) t.ty.kind
+kind_more : (kind : TyKind) (ts : List Typing) (t : Typing) → joined_all kind (ts ++ t ∷ []) ≡ joined_kind (joined_all kind ts) t.ty.kind
 kind_more kind [] t = refl
-kind_more kind (u ∷ us) t = kind_more (joined kind u.ty.kind) us t
+kind_more kind (u ∷ us) t = kind_more (joined_kind kind u.ty.kind) us t
 
 start_more : (start : Start) (ts : List Typing) (t : Typing) → start_of_all start (ts ++ t ∷ []) ≡ joined_start (start_of_all start ts) t.start
 start_more start [] t = refl
@@ -91,7 +91,7 @@ origin_more : (ts : List Typing) (t : Typing) → comma_origin (origins (ts ++ t
 origin_more ts t = ap comma_origin (origins_more ts t) ∙ counted_last (may_be_node t.ty.kind) (origins ts) t.ty.origin
 
 -- parts and one more, by what is known of the parts
-pub parts_more : (ts : List Typing) (t : Typing) → parts_of (ts ++ t ∷ []) ≡ added (parts_of ts) t
+pub parts_more : (ts : List Typing) (t : Typing) → parts_of_typings (ts ++ t ∷ []) ≡ added (parts_of_typings ts) t
 parts_more ts t =
     rw (first_more ts t) (rw (second_more ts t) (rw (third_more ts t) (rw (kind_more kinds.Nothing ts t)
     (rw (origin_more ts t) (rw (start_more starts.Nowhere ts t) (rw (some_more (λ (u : Typing). u.counts) ts t)
@@ -100,7 +100,7 @@ parts_more ts t =
 -- what is made of these fields
 pub made : (before : Parts) (t : Typing) {first second third : Option Typing} {kind : TyKind} {origin : Option Origin} {start : Start} {counts positional : Bool} →
     first ≡ first_with before.first t → second ≡ behind_with before.first before.second t → third ≡ behind_with before.second before.third t →
-    kind ≡ joined before.kind t.ty.kind → origin ≡ origin_with before.origin t → start ≡ joined_start before.start t.start →
+    kind ≡ joined_kind before.kind t.ty.kind → origin ≡ origin_with before.origin t → start ≡ joined_start before.start t.start →
     counts ≡ (before.counts || t.counts) → positional ≡ (before.positional || is_positional t) →
     ◌≡◌ {A = Parts} (record { first = first; second = second; third = third; kind = kind; origin = origin; start = start; counts = counts; positional = positional }) (added before t)
 made before t a b c d e f g h = cc

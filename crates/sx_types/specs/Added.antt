@@ -1,6 +1,6 @@
 -- What is known of parts when there is one more.
 use Rattle.std.specs.Prelude.{if◌then◌else◌, ◌&&◌, ◌||◌, Option, Some, None}
-use Rattle.sx_kinds.specs.Types.{is_positional, is_source, joined, joined_start, may_be_node}
+use Rattle.sx_kinds.specs.Types.{is_positional, is_source, joined_kind, joined_start, may_be_node}
 use Rattle.sx_kinds.specs.declared.types.Origin.{Origin}
 use Rattle.sx_kinds.specs.declared.types.Origin.TheVariants.{Source, Forest}
 use Rattle.sx_kinds.specs.declared.types.Parts.{Parts}
@@ -31,7 +31,7 @@ added parts t = record {
   first = first_with parts.first t;
   second = behind_with parts.first parts.second t;
   third = behind_with parts.second parts.third t;
-  kind = joined parts.kind t.ty.kind;
+  kind = joined_kind parts.kind t.ty.kind;
   origin = origin_with parts.origin t;
   start = joined_start parts.start t.start;
   counts = parts.counts || t.counts;

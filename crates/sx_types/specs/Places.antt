@@ -11,7 +11,7 @@ bindings (Base vars) = vars.now
 bindings (Bound' var p outer) = bindings outer ++ var ∷ []
 
 -- a place
-abbrev pub place_of : Place → settled.Place
+abbrev pub place_of : Place → settled.TypingPlace
 place_of place = record {
   context = place.context;
   current = place.current;

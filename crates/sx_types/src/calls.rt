@@ -8,7 +8,7 @@ use sx_kinds::{Function, Origin, Shape, Start, Ty, TyKind, Typing};
 
 // A call of a function on texts (XPath functions and operators 3.1, 5 and 2.3).
 fn text_call(f: TextFn) -> Ty
-    ensures { result ≡ spec.text_call f }
+    ensures { result ≡ spec.text_call_type f }
 {
     match f {
         TextFn::String | TextFn::NormalizeSpace | TextFn::Concat => one(TyKind::Str),
@@ -49,7 +49,7 @@ fn copied(x: &Ty) -> Ty
 // A call of another function, by the type of the current item or group and that of the first argument (XPath functions and
 // operators 3.1; XSLT 3.0, 14, 18 and 20).
 fn seq_call(f: SeqFn, ty: &Ty, x: &Ty) -> Ty
-    ensures { result ≡ spec.seq_call f ty.now x.now }
+    ensures { result ≡ spec.seq_call_type f ty.now x.now }
 {
     match f {
         SeqFn::Name | SeqFn::LocalName | SeqFn::NamespaceUri => one(TyKind::Str),
@@ -89,7 +89,7 @@ pub fn called(f: Function, ty: &Ty, x: &Ty) -> Ty
 
 /// The type of the first argument: that of the context item where there is none.
 pub fn argument(context: &Ty, first: Option<Typing>) -> Ty
-    ensures { result ≡ spec.argument context.now first }
+    ensures { result ≡ spec.argument_type context.now first }
 {
     match first {
         None => counted(context, true),

@@ -15,7 +15,7 @@ use sx_tree::Axis;
 
 // Operands behind commas (XPath 3.1, 3.4.1).
 fn comma(parts: &Parts) -> Ty
-    ensures { result ≡ spec.comma parts.now }
+    ensures { result ≡ spec.comma_type parts.now }
 {
     let origin = match parts.origin {
         None => Origin::Source,

@@ -62,7 +62,7 @@ pub fn may_be_number(kind: TyKind) -> bool
 
 /// Two kinds joined: the one that both are, or the least that has both.
 pub fn joined(a: TyKind, b: TyKind) -> TyKind
-    ensures { result ≡ spec.joined a b }
+    ensures { result ≡ spec.joined_kind a b }
 {
     let (m, n) = (rank(a), rank(b));
     if m == 13 {
@@ -216,7 +216,7 @@ fn names_one(test: &NodeTest) -> bool
 
 /// At most one item of a kind, which is no node of a copy.
 pub fn one(kind: TyKind) -> Ty
-    ensures { result ≡ spec.one kind }
+    ensures { result ≡ spec.one_of_kind kind }
 {
     Ty {
         kind,
@@ -238,7 +238,7 @@ pub fn many(kind: TyKind) -> Ty
 
 /// A step from a context (XPath 3.1, 3.3.2).
 pub fn step(context: &Ty, axis: Axis, test: &NodeTest) -> Ty
-    ensures { result ≡ spec.step context.now axis test.now }
+    ensures { result ≡ spec.step_type context.now axis test.now }
 {
     let origin = context.origin;
     let (kind, at_most_one) = match axis {

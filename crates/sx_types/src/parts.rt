@@ -1,7 +1,7 @@
 // What is known of the parts of an expression together.
 ghost use Rattle.std.specs.Prelude.{◌≡◌, ◌||◌, List, [], ◌∷◌, ◌++◌};
-ghost use Rattle.sx_kinds.specs.Types.{is_positional, is_same_start, is_source, joined_start, parts_of};
-ghost use Rattle.sx_kinds.specs.Types.{there};
+ghost use Rattle.sx_kinds.specs.Types.{is_positional, is_same_start, is_source, joined_start};
+ghost use Rattle.sx_kinds.specs.Types.{parts_of_typings, there};
 ghost use Rattle.sx_kinds.specs.declared.types.Typing.{Typing};
 ghost use Rattle.sx_types.specs.Added as spec;
 
@@ -10,7 +10,7 @@ use sx_kinds::{Origin, Parts, Shape, Start, TyKind, Typing};
 
 /// No parts.
 pub fn none() -> Parts
-    ensures { result ≡ parts_of [] }
+    ensures { result ≡ parts_of_typings [] }
 {
     Parts {
         first: None,
@@ -141,8 +141,8 @@ fn either(a: bool, b: bool) -> bool
 
 /// The parts and one more behind them.
 pub fn and_one(before: &Parts, part: &Typing) -> Parts
-    ensures { (ts : List Typing) → before.now ≡ parts_of ts
-        → result ≡ parts_of (ts ++ part.now ∷ []) }
+    ensures { (ts : List Typing) → before.now ≡ parts_of_typings ts
+        → result ≡ parts_of_typings (ts ++ part.now ∷ []) }
 {
     Parts {
         first: first_with(before.first, part),

@@ -78,7 +78,7 @@ pub fn is_deep(deep: Deep) -> bool
 
 /// The context behind `//`: a node at or below it.
 pub fn below(deep: Deep, context: &Ty) -> Ty
-    ensures { result ≡ spec.below deep context.now }
+    ensures { result ≡ spec.type_below deep context.now }
 {
     match deep {
         Deep::No => *context,
@@ -194,7 +194,7 @@ pub fn choice(a: &Typing, b: &Typing) -> Ty
 
 /// What a `for` returns for each item (XPath 3.1, 3.9.1).
 pub fn returned(over: &Ty, t: &Ty) -> Ty
-    ensures { result ≡ spec.returned over.now t.now }
+    ensures { result ≡ spec.returned_type over.now t.now }
 {
     let origin = if is_source(t.origin) {
         Origin::Source
@@ -281,7 +281,7 @@ fn path_origin(left: &Ty, right: &Typing) -> Origin
 
 /// What is evaluated for each item of the left side (XPath 3.1, 3.3 and 3.14).
 pub fn along(left: &Ty, right: &Typing) -> Ty
-    ensures { result ≡ spec.along left.now right.now }
+    ensures { result ≡ spec.type_along left.now right.now }
 {
     Ty {
         kind: right.ty.kind,

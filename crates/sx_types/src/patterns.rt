@@ -1,7 +1,7 @@
 // Settling patterns.
 ghost use Rattle.std.specs.Prelude.{◌≡◌, ◌∷◌, ◌++◌, [], Ok, IfOk, OnErr, OnOk};
 ghost use Rattle.sx_kinds.specs.Patterns as spec;
-ghost use Rattle.sx_kinds.specs.Settled.{place as place_at, settled};
+ghost use Rattle.sx_kinds.specs.Settled.{typing_place as place_at, settled_expression};
 ghost use Rattle.sx_kinds.specs.Types.{typing};
 ghost use Rattle.sx_types.specs.Places.{place_of};
 ghost use Rattle.sx_types.specs.Settling.{next_alternative};
@@ -49,7 +49,7 @@ pub fn settle_pattern(
     group: &Ty,
     vars: &VarTypes,
 ) -> Result<Result<(), Code>, AllocError>
-    ensures settled { IfOk result (λ answer.
+    ensures settled_expression { IfOk result (λ answer.
         pattern.new ≡ spec.settled_pattern pattern.old (place_at context.now group.now vars.now)) }
     ensures stays { IfOk result (λ answer.
         spec.IsSettledPattern pattern.new (place_at context.now group.now vars.now)) }

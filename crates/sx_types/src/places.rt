@@ -60,7 +60,7 @@ pub fn type_in<'a>(mut scope: &'a Scope<'a>, name: u64) -> Ty
 
 /// The variable that an expression binds for the parts behind its first one (XPath 3.1, 3.9 and 3.11).
 pub fn bound(form: &ExprForm, first: Option<Typing>) -> Option<VarType>
-    ensures { one_bound result ≡ spec.bound form.now first }
+    ensures { one_bound result ≡ spec.variable_bound form.now first }
 {
     let t = first?;
     match form {
@@ -80,7 +80,7 @@ pub fn bound(form: &ExprForm, first: Option<Typing>) -> Option<VarType>
 
 // The type at a call: that of the current item, or of the current group (XSLT 3.0, 20.4.1 and 14.2.1).
 fn type_at(function: Function, place: &Place<'_>, ty: Ty) -> Ty
-    ensures { result ≡ spec.type_at function (place_of place.now) ty }
+    ensures { result ≡ spec.type_of_call function (place_of place.now) ty }
 {
     match function {
         Function::Seq(SeqFn::Current) => place.current,

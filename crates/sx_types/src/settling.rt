@@ -9,8 +9,8 @@ ghost use Rattle.sx_kinds.specs.declared.types.Typing.{Typing as AnyTyping};
 ghost use Rattle.sx_kinds.specs.Ways.{front, levels};
 ghost use Rattle.sx_kinds.specs.declared.walks.Way.TheVariants.{OneFocus};
 ghost use Rattle.sx_types.specs.Places.{place_of};
-ghost use Rattle.sx_types.specs.Settling.{Adds, AreKnown, IsBegun, IsSettledAt, finished_in, known_after};
-ghost use Rattle.sx_types.specs.Settling.{known_from, next_part, together};
+ghost use Rattle.sx_types.specs.Settling.{AddsSettled, AreKnownParts, IsBegun, IsSettledAt, finished_in};
+ghost use Rattle.sx_types.specs.Settling.{known_after, known_from, next_part, together};
 
 use crate::forms::{focus, known_by};
 use crate::parts::{and_one, none};
@@ -72,9 +72,9 @@ fn finish(
     done: &mut Exprs,
 ) -> Result<Result<Typing, Code>, AllocError>
     ensures { (before : Result (List AnyTyping) AnyCode) (outer : AnyTy)
-        → AreKnown e.now parts here.now.context outer known.now before
+        → AreKnownParts e.now parts here.now.context outer known.now before
         → IfOk result (λ answer.
-        Adds done.old done.new (finished_in e.now (place_of here.now) parts outer) outer answer) }
+        AddsSettled done.old done.new (finished_in e.now (place_of here.now) parts outer) outer answer) }
 {
     let context = &here.context;
     let answer = answered(&e.form, e.deep, context, known);
@@ -131,8 +131,8 @@ fn settle_inside(
     done: &mut Exprs,
 ) -> Result<Result<Typing, Code>, AllocError>
     ensures { IfOk result (λ answer.
-        let made = spec.settled part.now (spec.inner form.now (place_of here.now) first) in
-        Adds done.old done.new made (focus_of form.now here.now.context first) answer) }
+        let made = spec.settled_expression part.now (spec.inner form.now (place_of here.now) first) in
+        AddsSettled done.old done.new made (focus_of form.now here.now.context first) answer) }
 {
     let context = focus(form, &here.context, first);
     match bound(form, first) {
@@ -198,7 +198,8 @@ fn settle_level(
 ) -> Result<Result<Typing, Code>, AllocError>
     requires { IsBegun e.now (place_of place.now) parts known }
     ensures { IfOk result (λ answer.
-        Adds done.old done.new (spec.settled e.now (place_of place.now)) place.now.context answer) }
+        AddsSettled done.old done.new (spec.settled_expression e.now (place_of place.now)) place.now.context
+        answer) }
 {
     let here = Place {
         context: paths::below(e.deep, &place.context),
@@ -228,7 +229,8 @@ fn settle_rise(
     requires within { n ≤ levels OneFocus e.now }
     requires below { IsSettledAt (place_of place.now) (front OneFocus n e.now) parts known }
     ensures { IfOk result (λ answer.
-        Adds done.old done.new (spec.settled e.now (place_of place.now)) place.now.context answer) }
+        AddsSettled done.old done.new (spec.settled_expression e.now (place_of place.now)) place.now.context
+        answer) }
 {
     if n == 1 {
         let first = known_more(&Ok(none()), &known);
@@ -250,7 +252,8 @@ pub fn settle_in(
     done: &mut Exprs,
 ) -> Result<Result<Typing, Code>, AllocError>
     ensures { IfOk result (λ answer.
-        Adds done.old done.new (spec.settled e.now (place_of place.now)) place.now.context answer) }
+        AddsSettled done.old done.new (spec.settled_expression e.now (place_of place.now)) place.now.context
+        answer) }
 {
     let n = e.levels(Way::OneFocus);
     if n == 0 {
@@ -282,9 +285,9 @@ pub fn settle(
     vars: &VarTypes,
 ) -> Result<Result<(), Code>, AllocError>
     ensures settled { IfOk result (λ answer.
-        e.new ≡ spec.settled e.old (spec.place context.now group.now vars.now)) }
+        e.new ≡ spec.settled_expression e.old (spec.typing_place context.now group.now vars.now)) }
     ensures stays { IfOk result
-        (λ answer. spec.IsSettled e.new (spec.place context.now group.now vars.now)) }
+        (λ answer. spec.IsSettled e.new (spec.typing_place context.now group.now vars.now)) }
     ensures answer { IfOk result (λ answer. answer ≡ spec.without_type (type_of e.new context.now)) }
     ensures unchanged { OnErr result (e.new ≡ e.old) }
 {

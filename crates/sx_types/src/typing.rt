@@ -3,7 +3,7 @@ ghost use Rattle.std.specs.Prelude.{◌≡◌, ◌≤◌, Ok, drop, length};
 ghost use Rattle.sx_kinds.specs.Types as spec;
 ghost use Rattle.sx_kinds.specs.Ways.{front, levels};
 ghost use Rattle.sx_kinds.specs.declared.walks.Way.TheVariants.{OneFocus};
-ghost use Rattle.sx_types.specs.Firsts.{IsKnown, known_front};
+ghost use Rattle.sx_types.specs.Firsts.{IsKnownTyping, known_front};
 
 use crate::forms::{focus, known_by};
 use crate::parts::{and_one, none};
@@ -14,7 +14,7 @@ use sx_kinds::{Expr, Parts, Ty, Typing, Way};
 // What is known of parts whose first one may be known, and the parts behind those.
 #[inline(never)]
 fn begun<'a>(parts: &'a [Expr], first: Option<Typing>) -> (Parts, &'a [Expr])
-    ensures known { result.0 ≡ spec.parts_of (known_front first parts.entry.now) }
+    ensures known { result.0 ≡ spec.parts_of_typings (known_front first parts.entry.now) }
     ensures behind { result.1.now ≡ drop (length (known_front first parts.entry.now)) parts.entry.now }
 {
     match (first, parts) {
@@ -26,7 +26,7 @@ fn begun<'a>(parts: &'a [Expr], first: Option<Typing>) -> (Parts, &'a [Expr])
 // What is known of an expression in a context, where this may be known of its first part.
 #[cycle(typing)]
 fn level(e: &Expr, outer: &Ty, first: Option<Typing>) -> Result<Typing, Code>
-    ensures { IsKnown e.now outer.now first → result ≡ spec.typing e.now outer.now }
+    ensures { IsKnownTyping e.now outer.now first → result ≡ spec.typing e.now outer.now }
 {
     let context = below(e.deep, outer);
     let (mut parts, behind) = begun(e.parts.as_slice(), first);

@@ -1,11 +1,11 @@
 use Rattle.std.proofs.Common.{◌≡◌, ◌-◌, length}
 use Rattle.sx_esis.specs.Escapes.{unescape}
-use Rattle.sx_esis.specs.Replacing.{IsCut, comes_to}
+use Rattle.sx_esis.specs.Replacing.{IsPartlyReplaced, comes_to}
 use Rattle.sx_esis.proofs.escapes.unescape.Given as goal
 
 abbrev pub invariant-loop-places : goal.invariant-loop-places
 invariant-loop-places l = record {
-  cut : IsCut l.bytes l.places.written l.places.read;
+  cut : IsPartlyReplaced l.bytes l.places.written l.places.read;
   same : unescape l.fn.bytes ≡ comes_to l.bytes l.places.written l.places.read;
 }
 

@@ -3,7 +3,7 @@ use Rattle.std.specs.Global.{Vec}
 use Rattle.sx_names.proofs.Places.{KeepsPlaces-trans}
 use Rattle.sx_tree.specs.declared.events.Space.{Space}
 use Rattle.sx_events.specs.Place.{Written, declared_behind}
-use Rattle.sx_events.specs.Standing.{Holds}
+use Rattle.sx_events.specs.Standing.{HoldsOpen}
 use Rattle.sx_events.specs.Starting.{spaces_fault, has_double_number}
 use Rattle.sx_events.proofs.Starts.{start_fault_is, event_is, label_known}
 use Rattle.sx_events.proofs.starting.begin.Goals as goal
@@ -45,7 +45,7 @@ returns-clause-begins c = λ p holds around wait.
     let bound = rw c.scope.ensures at (rw c.in-Some-2.is at c.in_ok-label.ensures.bound) in
     let all_are = rw c.scope-2.ensures at (rw c.in-Some-3.is at c.in_ok-attrs.ensures.bound) in
     let distinct = c.attributes.ensures.distinct (rw c.in-Some-2.is at c.in_ok-label.ensures.unique) in
-    let still : Holds c.enter.new.self p.opened = rw (c.enter.ensures.text, c.enter.ensures.starts) holds in
+    let still : HoldsOpen c.enter.new.self p.opened = rw (c.enter.ensures.text, c.enter.ensures.starts) holds in
     let kept = c.attributes.ensures.kept in (
       start_fault_is c.args.limits.now p c.args.name.now lines declared lines_are declared_are c.enter.new.self.scope entered c.element_label.new.names c.attributes.new.names kept
           c.in-Some-2.label c.in-Some-3.attrs it all spaces room bound all_are distinct false (sym c.if-has_double.false ∙ c.has_double.ensures ∙ ap has_double_number c.as_slice-3.ensures),

@@ -2,7 +2,7 @@ use Rattle.std.proofs.Common.{◌+◌, ◌≤◌, arith}
 use Rattle.sx_esis.specs.LineReader.{unread}
 use Rattle.sx_names.proofs.Places.{KeepsPlaces-trans}
 use Rattle.sx_events.specs.Pending.{IsIdle}
-use Rattle.sx_events.specs.Standing.{count}
+use Rattle.sx_events.specs.Standing.{events_in}
 use Rattle.sx_events.proofs.taking.take_lines.Goals as goal
 
 pub loop-lines-preserved : goal.loop-lines-preserved
@@ -11,7 +11,7 @@ loop-lines-preserved c =
     let next = c.in_ok-take_next.ensures in
     let so_far = c.loop-lines.invariant in
     let before = so_far.no_more in
-    let fewer : unread c.take_next.new.lines + count c.take_next.new.standing.run c.take_next.new.pending ≤ unread c.loop-lines.lines + count c.loop-lines.standing.run c.loop-lines.pending = rw c.in-Line.is at next.no_more in
+    let fewer : unread c.take_next.new.lines + events_in c.take_next.new.standing.run c.take_next.new.pending ≤ unread c.loop-lines.lines + events_in c.loop-lines.standing.run c.loop-lines.pending = rw c.in-Line.is at next.no_more in
     record {
       along = λ b ended given line a. (rw c.in-Line.is at next.after) b ended given line idle (so_far.along b ended given line a);
       no_more = omega (arith, before, fewer);

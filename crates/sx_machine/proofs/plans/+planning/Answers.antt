@@ -6,7 +6,7 @@ use Rattle.sx_kinds.specs.declared.constructs.Instr.{Instr}
 use Rattle.sx_kinds.specs.declared.constructs.Instr.TheViews.{out-Instr}
 use Rattle.sx_kinds.specs.declared.constructs.InstrForm.{InstrForm}
 use Rattle.sx_build.specs.Asked as ask
-use Rattle.sx_machine.specs.Body.{Body, literal, body_of, in_front, instr_in_front, written_out}
+use Rattle.sx_machine.specs.Body.{Body, literal, body_of, form_in_front, instr_in_front, written_out}
 use Rattle.sx_machine.specs.Plan.{Plan, still, then_plan, plan_of, read_plan}
 use Rattle.sx_machine.specs.Run.{gives}
 use Rattle.sx_machine.proofs.Rules.{in_front_is, joined_is}
@@ -14,8 +14,8 @@ use Rattle.sx_machine.proofs.Splits.{literal_in_front, text_in_front}
 use Rattle.sx_machine.proofs.plans.+planning.Goals as goal
 
 -- an instruction of this form in front of others
-front_of : (i : Instr) (f : InstrForm) → (out-Instr i).form ≡ f → (rest : Body Label) → instr_in_front i rest ≡ in_front (out-Instr i).construct.line f (map instr_in_front (out-Instr i).body) rest
-front_of i f e rest = in_front_is i rest ∙ ap (λ (g : InstrForm). in_front (out-Instr i).construct.line g (map instr_in_front (out-Instr i).body) rest) e
+front_of : (i : Instr) (f : InstrForm) → (out-Instr i).form ≡ f → (rest : Body Label) → instr_in_front i rest ≡ form_in_front (out-Instr i).construct.line f (map instr_in_front (out-Instr i).body) rest
+front_of i f e rest = in_front_is i rest ∙ ap (λ (g : InstrForm). form_in_front (out-Instr i).construct.line g (map instr_in_front (out-Instr i).body) rest) e
 
 pub plan_instr-returns-in_ok-plan_instrs-in-Literal : goal.plan_instr-returns-in_ok-plan_instrs-in-Literal
 plan_instr-returns-in_ok-plan_instrs-in-Literal t c = on_ok_weaker c.push-in-Literal.result (λ ended names left rest.

@@ -1,7 +1,7 @@
 use Rattle.std.proofs.Common.{◌≡◌, ◌∙◌, ◌<◌, ℕ, List, get_or, ap, subst, sym, string_bytes, IfOk}
 use Rattle.std.proofs.lemmas.Str.{IsCharBoundary-after_ascii}
 use Rattle.sx_lex.specs.Tokens.{closes}
-use Rattle.sx_parse.specs.Checks.{unquoted, content}
+use Rattle.sx_parse.specs.Checks.{unquoted, literal_content}
 use Rattle.sx_parse.proofs.Quotes.{has_quotes}
 use Rattle.sx_parse.proofs.functions.content.Goals as goal
 
@@ -24,6 +24,6 @@ pub returns : goal.returns
 returns c =
     let quotes = has_quotes c.args.text.now c.requires in
     let first : c.from-quote.result ≡ get_or c.args.text.now 0 0 = c.from-quote.ensures ∙ ap (λ (s : List ℕ). get_or s 0 0) c.as_bytes.ensures.value in
-    let same : unquoted c.from-quote.result c.range_from.result.now ≡ content c.args.text.now =
+    let same : unquoted c.from-quote.result c.range_from.result.now ≡ literal_content c.args.text.now =
     ap (λ (b : ℕ). unquoted b c.range_from.result.now) first ∙ ap (unquoted (get_or c.args.text.now 0 0)) c.range_from.ensures.value ∙ sym quotes.is in
     subst (λ (t : List ℕ). IfOk c.unquoted.result (λ s. string_bytes s ≡ t)) same c.unquoted.ensures

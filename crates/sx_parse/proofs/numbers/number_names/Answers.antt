@@ -5,7 +5,7 @@ use Rattle.sx_lex.specs.declared.kinds.Token.{Token}
 use Rattle.sx_names.proofs.Places.{KeepsPlaces-trans}
 use Rattle.sx_parse.specs.Lexing.{IsPart}
 use Rattle.sx_parse.specs.Numbers.{expanded}
-use Rattle.sx_parse.specs.Naming.{names_with, number_with}
+use Rattle.sx_parse.specs.Naming.{names_with_role, number_with}
 use Rattle.sx_parse.proofs.Naming.{IsNumberedTo, numbering_goes_on, numbering_ends}
 use Rattle.sx_parse.proofs.Parts.{part_at}
 use Rattle.sx_parse.proofs.numbers.number_names.Goals as goal
@@ -36,7 +36,7 @@ loop-role-preserved c =
     let next =
     numbering_goes_on scope text c.args.roles.now c.args.tokens.now c.args.names.now old c.loop-role.numbers (length c.loop-role.yielded) role token new c.in_ok-number.number
     turn.0 turn.1 turn.2 turn.3 c.loop-role.invariant.0
-    (c.in_ok-number.ensures.names ∙ ap (λ (s : List ℕ). names_with role old (expanded scope s)) c.token_text.ensures)
+    (c.in_ok-number.ensures.names ∙ ap (λ (s : List ℕ). names_with_role role old (expanded scope s)) c.token_text.ensures)
     (c.in_ok-number.ensures.number ∙ ap (λ (s : List ℕ). number_with role new (expanded scope s)) c.token_text.ensures) in (
       subst (λ (k : ℕ). so_far c.push.new.self k) (sym (length_push c.loop-role.yielded (c.in-Some.role, c.in-Some.token)))
           (subst (λ (ns : List ℕ). so_far ns (length c.loop-role.yielded + 1)) (sym c.in_ok-push.ensures.ok) next),

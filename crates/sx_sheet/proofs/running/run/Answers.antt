@@ -1,5 +1,5 @@
 use Rattle.std.proofs.Common.{◌≤◌, ◌+◌, arith}
-use Rattle.sx_sheet.specs.Tokens.{AreKnown}
+use Rattle.sx_sheet.specs.Tokens.{AreKnownEvents}
 use Rattle.sx_sheet.proofs.Coming.{keeps_both, here, passes, goes, stops, ends_well, ends_early}
 use Rattle.sx_sheet.proofs.running.run.Goals as goal
 
@@ -12,7 +12,7 @@ returns-in-None-clause-kept c = keeps_both _ _ _ c.loop-lined.invariant.kept c.s
 pub loop-lined-preserved-then-is_skipped : goal.loop-lined-preserved-then-is_skipped
 loop-lined-preserved-then-is_skipped c =
     let l = c.loop-lined in
-    let at = λ (k : AreKnown c.args.names.now c.args.events.now). here c.args.names.now l.names c.args.events.now c.as_slice-lined-items.result.now l.lined-index c.lined-item.result c.token_of.result c.in-Some.token c.as_slice-lined-items.ensures c.loop-lined-test.true c.lined-item.is l.invariant.kept (l.invariant.known k) c.token_of.ensures.token c.in-Some.is in
+    let at = λ (k : AreKnownEvents c.args.names.now c.args.events.now). here c.args.names.now l.names c.args.events.now c.as_slice-lined-items.result.now l.lined-index c.lined-item.result c.token_of.result c.in-Some.token c.as_slice-lined-items.ensures c.loop-lined-test.true c.lined-item.is l.invariant.kept (l.invariant.known k) c.token_of.ensures.token c.in-Some.is in
     record {
       kept = l.invariant.kept;
       constructs = omega (arith, l.invariant.constructs);
@@ -23,7 +23,7 @@ loop-lined-preserved-then-is_skipped c =
 pub loop-lined-preserved : goal.loop-lined-preserved
 loop-lined-preserved c =
     let l = c.loop-lined in
-    let at = λ (k : AreKnown c.args.names.now c.args.events.now). here c.args.names.now l.names c.args.events.now c.as_slice-lined-items.result.now l.lined-index c.lined-item.result c.token_of.result c.in-Some.token c.as_slice-lined-items.ensures c.loop-lined-test.true c.lined-item.is l.invariant.kept (l.invariant.known k) c.token_of.ensures.token c.in-Some.is in
+    let at = λ (k : AreKnownEvents c.args.names.now c.args.events.now). here c.args.names.now l.names c.args.events.now c.as_slice-lined-items.result.now l.lined-index c.lined-item.result c.token_of.result c.in-Some.token c.as_slice-lined-items.ensures c.loop-lined-test.true c.lined-item.is l.invariant.kept (l.invariant.known k) c.token_of.ensures.token c.in-Some.is in
     let near : c.in-Some-2.next.constructs ≤ l.reader.constructs + 2 = rw c.in-Some-2.is at c.in_ok-step.ensures.near in
     record {
       kept = keeps_both _ _ _ l.invariant.kept c.step.ensures.kept;

@@ -1,7 +1,7 @@
 use Rattle.std.proofs.Common.{◌+◌, List, [], ◌∷◌, ◌++◌, drop, Result, Ok, ap, sym, ◌∙◌}
 use Rattle.sx_atoms.specs.declared.error_codes.Code.{Code}
 use Rattle.sx_kinds.specs.Patterns.{have_types, settled_each}
-use Rattle.sx_kinds.specs.Settled.{place}
+use Rattle.sx_kinds.specs.Settled.{typing_place}
 use Rattle.sx_kinds.specs.declared.expressions.Expr.{Expr}
 use Rattle.sx_types.specs.Settling.{next_alternative}
 use Rattle.sx_types.proofs.Alternatives.{each_end, each_more, pattern_stays_at, types_more}
@@ -10,7 +10,7 @@ use Rattle.sx_types.proofs.patterns.settle_pattern.Goals as goal
 pub loop-e-preserved : goal.loop-e-preserved
 loop-e-preserved c =
     let context = c.args.context.now in
-    let here = place context c.args.group.now c.as_slice.result.now in
+    let here = typing_place context c.args.group.now c.as_slice.result.now in
     let old = c.loop-e.done in
     let made = next_alternative here c.loop-e.known c.e-item.result in
     let rest = drop (c.loop-e.e-index + 1) c.as_slice-e-items.result.now in
@@ -28,7 +28,7 @@ loop-e-preserved c =
 
 pub returns-clause-stays : goal.returns-clause-stays
 returns-clause-stays c =
-    let here = place c.args.context.now c.args.group.now c.as_slice.result.now in
+    let here = typing_place c.args.context.now c.args.group.now c.as_slice.result.now in
     let inv = c.loop-e.invariant in
     let all = each_end here c.loop-e.known c.loop-e.done c.as_slice-e-items.result.now c.loop-e.e-index c.loop-e-test.false ∙
     inv.0 ∙ ap (settled_each here (Ok tt)) c.as_slice-e-items.ensures in

@@ -1,5 +1,5 @@
 use Rattle.std.proofs.Common.{◌≡◌, ◌+◌, ◌-◌, ◌/◌, ◌<◌, List, [], ◌∷◌, ◌++◌, IfOk, length, drop, map, Ok, ap, refl, sym, subst, ◌∙◌, ℕ, arith}
-use Rattle.sx_kinds.specs.Settled.{Place, settled_parts, settling_of}
+use Rattle.sx_kinds.specs.Settled.{TypingPlace, settled_parts, settling_of}
 use Rattle.sx_kinds.specs.Types.{each, typing}
 use Rattle.sx_kinds.specs.declared.expressions.Expr.{Expr}
 use Rattle.sx_kinds.specs.declared.expressions.Expr.TheViews.{out-Expr}
@@ -18,16 +18,16 @@ settle_level-loop-part-init t c =
     let form = (out-Expr c.args.e.now).form in
     let place = c.args.place.now in
     let is = c.requires in
-    let here : Place = record { context = c.below.result; current = place.current; group = place.group; vars = bindings place.scope.now } in
+    let here : TypingPlace = record { context = c.below.result; current = place.current; group = place.group; vars = bindings place.scope.now } in
     let stands = ap (λ (n : Ty). record { context = n; current = place.current; group = place.group; vars = bindings place.scope.now }) c.below.ensures in
     let behind = c.behind-part-items.ensures ∙ ap (λ (items : List Expr). drop (length items) c.as_slice.result.now) c.as_slice-2.ensures ∙ ap (drop (length c.args.parts)) c.as_slice.ensures in (
       is.0,
       is.1,
       ap (λ (n : Ty). each form n [] (map typing c.args.parts)) c.below.ensures ∙ is.2,
       ap (λ (items : List Expr). c.args.parts ++ settled_parts form here is.0 (map settling_of items)) behind ∙
-          ap (λ (w : Place). c.args.parts ++ settled_parts form w is.0 (map settling_of (drop (length c.args.parts) (out-Expr c.args.e.now).parts))) stands ∙
+          ap (λ (w : TypingPlace). c.args.parts ++ settled_parts form w is.0 (map settling_of (drop (length c.args.parts) (out-Expr c.args.e.now).parts))) stands ∙
           is.3 ∙
-          ap (λ (w : Place). settled_parts form w (Ok []) (map settling_of (out-Expr c.args.e.now).parts)) (sym stands),
+          ap (λ (w : TypingPlace). settled_parts form w (Ok []) (map settling_of (out-Expr c.args.e.now).parts)) (sym stands),
     )
 
 pub settle_level-settle_part-requires : goal.settle_level-settle_part-requires
@@ -40,7 +40,7 @@ settle_level-settle_part-requires t c =
 pub settle_level-loop-part-preserved : goal.settle_level-loop-part-preserved
 settle_level-loop-part-preserved t c =
     let form = (out-Expr c.args.e.now).form in
-    let here : Place = record { context = c.below.result; current = c.args.place.now.current; group = c.args.place.now.group; vars = bindings c.args.place.now.scope.now } in
+    let here : TypingPlace = record { context = c.below.result; current = c.args.place.now.current; group = c.args.place.now.group; vars = bindings c.args.place.now.scope.now } in
     let inv = c.loop-part.invariant in
     let before = inv.0 in
     let part = c.part-item.result in
@@ -59,7 +59,7 @@ settle_level-returns t c =
     let e = c.args.e.now in
     let form = (out-Expr e).form in
     let place = c.args.place.now in
-    let here : Place = record { context = c.below.result; current = place.current; group = place.group; vars = bindings place.scope.now } in
+    let here : TypingPlace = record { context = c.below.result; current = place.current; group = place.group; vars = bindings place.scope.now } in
     let inv = c.loop-part.invariant in
     let all = parts_end form here inv.0 c.loop-part.parts c.behind-part-items.result.now c.loop-part.part-index c.loop-part-test.false ∙ inv.3 in
     let stands = ap (λ (n : Ty). record { context = n; current = place.current; group = place.group; vars = bindings place.scope.now }) c.below.ensures in

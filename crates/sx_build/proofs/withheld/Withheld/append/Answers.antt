@@ -4,7 +4,7 @@ use Rattle.sx_build.specs.declared.withheld.Withheld.{Withheld}
 use Rattle.sx_build.specs.InForce.{in_force}
 use Rattle.sx_build.specs.Kept.{with_one, name_prefixes, HoldsAs}
 use Rattle.std.specs.Prelude.{◌&&◌}
-use Rattle.sx_build.specs.FixUp.{is_one_of, prefixes}
+use Rattle.sx_build.specs.FixUp.{is_text_among, prefixes}
 use Rattle.sx_build.proofs.Holding.{FixedAnew, kept_holds, few, appended_holds, placed_holds}
 use Rattle.sx_build.proofs.withheld.Withheld.append.Goals as goal
 
@@ -35,5 +35,5 @@ returns c = λ h s are behind.
     (placed_holds bound h me.name me.prefix me.own me.declared.items me.pairs.items me.names.items s c.args.name c.args.value
     c.push.new.self.items c.len-at.result u.pairs.items u.declared.items are behind c.in_ok-push.ensures.items (c.len-at.ensures ∙ me.names.ok.0)
     (c.if-given.ensures
-    ∙ ap (λ (p : List ℕ). is_one_of (prefixes me.declared.items) p && not (is_one_of (me.prefix ∷ name_prefixes me.names.items) p)) c.prefix.ensures)
+    ∙ ap (λ (p : List ℕ). is_text_among (prefixes me.declared.items) p && not (is_text_among (me.prefix ∷ name_prefixes me.names.items) p)) c.prefix.ensures)
     (few me.declared.items c.args.outer.now me.names.items me.prefix (omega (arith, me.declared.ok, me.declared.small)) (omega arith) (omega (arith, me.names.ok, me.names.small))) c.in_ok-place.ensures.declared c.in_ok-place.ensures.pairs)

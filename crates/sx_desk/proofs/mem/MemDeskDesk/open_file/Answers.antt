@@ -1,7 +1,7 @@
 use Rattle.std.proofs.Common.{rules, arith, ◌≡◌, ◌+◌, ◌++◌, ◌∷◌, sym, ap, ◌∙◌, Some, None, [], true, false, ◌||◌, Bool, refl, length, List}
 use Rattle.std.proofs.lemmas.Bool.{false≢true}
 use Rattle.std.proofs.lemmas.List.{length-map}
-use Rattle.sx_desk.specs.Files.{place_in}
+use Rattle.sx_desk.specs.Files.{file_place}
 use Rattle.sx_desk.specs.History.{tells, opened_names}
 use Rattle.sx_desk.specs.Opened.{taken_of, marks_of}
 use Rattle.sx_desk.specs.declared.files.MemFile.{MemFile}
@@ -21,8 +21,8 @@ returns-in-Some-clause-desk c =
     let h₁ = c.ask.new.self in
     let h₂ = c.open.new.self in
     let items = h₀.files.items in
-    let place : place_in files name ≡ Some c.in-Some.place =
-    ap (λ (fs : List MemFile). place_in fs name) (sym c.as_slice.ensures) ∙ sym c.in-Some.ensures in
+    let place : file_place files name ≡ Some c.in-Some.place =
+    ap (λ (fs : List MemFile). file_place fs name) (sym c.as_slice.ensures) ∙ sym c.in-Some.ensures in
     let kept = c.ask.ensures.files in
     let number : c.open.result ≡ length (opened_names h₀) = c.open.ensures.number ∙ kept.opened ∙ sym (opened_length h₀) in
     record {
@@ -76,8 +76,8 @@ returns-in-Some-clause-fails c =
     let desk = c.args.self.now in
     let name = c.args.name.now in
     let listed : is_listed desk.open_fails.items desk.opens ≡ c.contains.result = search rules in
-    let place : place_in desk.files name ≡ Some c.in-Some.place =
-    ap (λ (fs : List MemFile). place_in fs name) (sym c.as_slice.ensures) ∙ sym c.in-Some.ensures in
+    let place : file_place desk.files name ≡ Some c.in-Some.place =
+    ap (λ (fs : List MemFile). file_place fs name) (sym c.as_slice.ensures) ∙ sym c.in-Some.ensures in
     neither _ _ (listed ∙ c.if-not-contains.true) (placed_is_known desk.files name c.in-Some.place place)
 
 pub returns-clause-fails : goal.returns-clause-fails
@@ -87,8 +87,8 @@ returns-clause-fails c =
     let listed : is_listed desk.open_fails.items desk.opens ≡ c.contains.result = search rules in
     elim c.if-not-contains.branch [
       | then-not-contains+in_default w ↦
-          let place : place_in desk.files name ≡ None =
-          ap (λ (fs : List MemFile). place_in fs name) (sym w.as_slice.ensures) ∙ sym w.place_of.ensures ∙ w.in_default.is in
+          let place : file_place desk.files name ≡ None =
+          ap (λ (fs : List MemFile). file_place fs name) (sym w.as_slice.ensures) ∙ sym w.place_of.ensures ∙ w.in_default.is in
           nothing_there _ _ (unplaced_has_none desk.files name place)
       | else-not-contains w ↦ either _ _ (listed ∙ w.if-not-contains.false)
     ]

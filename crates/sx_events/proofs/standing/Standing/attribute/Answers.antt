@@ -1,7 +1,7 @@
 use Rattle.std.proofs.Common.{◌≡◌, ◌∙◌, Bool, not, true, false, cond, Option, Some, None, refl, sym}
 use Rattle.std.proofs.lemmas.Bool.{false≢true}
 use Rattle.sx_esis.specs.Lines.{has}
-use Rattle.sx_events.specs.Course.{behind}
+use Rattle.sx_events.specs.Course.{place_behind}
 use Rattle.sx_limits.specs.declared.faults.Which.{Which}
 use Rattle.sx_limits.specs.declared.faults.Which.TheVariants as which
 use Rattle.sx_events.proofs.Takings.{knows_flushed, flush_waits}
@@ -17,7 +17,7 @@ returns-clause-takes c = λ number names p knows may line idle.
     let waits = flush_waits names c.args.self.now _ c.flush.new.self c.flush.new.pending p knows refl flushed (c.flush.ensures.event ∙ idle.event) in (
       with_room _ (sym (c.is_full.ensures p.attributes knows.wait) ∙ c.if-is_full.false),
       record {
-        knows = knows_flushed _ c.flush.new.self c.flush.new.pending.text (behind p (has c.args.name.now c.args.value.now)) flushed (record {
+        knows = knows_flushed _ c.flush.new.self c.flush.new.pending.text (place_behind p (has c.args.name.now c.args.value.now)) flushed (record {
           opened = knows.opened;
           scope = knows.scope;
           has_root = knows.has_root;

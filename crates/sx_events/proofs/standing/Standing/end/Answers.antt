@@ -2,7 +2,7 @@ use Rattle.std.proofs.Common.{◌∙◌, not, refl, ap, sym}
 use Rattle.sx_esis.specs.Lines.{ends}
 use Rattle.sx_tree.specs.Tree as tree
 use Rattle.sx_tree.specs.declared.events.Event.TheVariants as event
-use Rattle.sx_events.specs.Course.{behind, rest_of}
+use Rattle.sx_events.specs.Course.{place_behind, rest_of}
 use Rattle.sx_events.specs.Place.{ordinary, spaces_of}
 use Rattle.sx_limits.specs.declared.faults.Which.TheVariants as which
 use Rattle.sx_events.proofs.Takings.{knows_flushed, put_waits, put_count, not_loose, no_fault}
@@ -17,7 +17,7 @@ returns-clause-takes c = λ limits names p knows may line idle.
     let none = knows.strict strict in (
       no_fault _ which.EndMismatch (ap not (sym (c.end.ensures.is p.opened knows.opened) ∙ c.if-not-end.false)),
       record {
-        knows = knows_flushed _ c.put.new.self c.put.new.pending.text (behind p (ends name)) flushed (record {
+        knows = knows_flushed _ c.put.new.self c.put.new.pending.text (place_behind p (ends name)) flushed (record {
           opened = c.end.ensures.names c.if-not-end.false p.opened knows.opened;
           scope = c.end.ensures.scope c.if-not-end.false ∙ ap rest_of knows.scope;
           has_root = knows.has_root;

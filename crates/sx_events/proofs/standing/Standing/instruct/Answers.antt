@@ -4,7 +4,7 @@ use Rattle.sx_named.specs.Named.{ElementStart}
 use Rattle.sx_tree.specs.Tree as tree
 use Rattle.sx_tree.specs.Tree.{TreeEvent}
 use Rattle.sx_tree.specs.declared.events.Event.TheVariants as event
-use Rattle.sx_events.specs.Course.{behind, instruction}
+use Rattle.sx_events.specs.Course.{place_behind, instruction}
 use Rattle.sx_events.specs.Place.{ordinary, spaces_of}
 use Rattle.sx_events.proofs.Takings.{knows_flushed, put_waits, put_count, not_loose}
 use Rattle.sx_events.proofs.standing.Standing.instruct.Goals as goal
@@ -20,7 +20,7 @@ returns-clause-takes c = λ limits names p knows may line idle.
     let none = knows.strict strict in (
       refl,
       record {
-        knows = knows_flushed _ c.put.new.self c.put.new.pending.text (behind p (instructs text)) flushed (record {
+        knows = knows_flushed _ c.put.new.self c.put.new.pending.text (place_behind p (instructs text)) flushed (record {
           opened = knows.opened;
           scope = knows.scope;
           has_root = knows.has_root;

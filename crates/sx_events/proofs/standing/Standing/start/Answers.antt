@@ -1,7 +1,7 @@
 use Rattle.std.proofs.Common.{refl}
 use Rattle.sx_esis.specs.Lines.{starts}
 use Rattle.sx_tree.specs.Tree as tree
-use Rattle.sx_events.specs.Course.{behind, begun}
+use Rattle.sx_events.specs.Course.{place_behind, element_begun}
 use Rattle.sx_events.proofs.Takings.{knows_flushed, put_waits, put_count}
 use Rattle.sx_events.proofs.standing.Standing.start.Goals as goal
 
@@ -10,10 +10,10 @@ returns-in-Ok-clause-takes c = λ p knows may line idle.
     let name = c.args.name.now in
     let begins = (rw c.in-Ok.is at c.in_ok-which.ensures.begins) p knows.opened knows.scope knows.wait in
     let flushed = c.put.ensures.flushed in
-    let waits = put_waits c.begin.new.names c.args.self.now _ c.put.new.self c.put.new.pending p knows refl flushed c.in-Ok.event c.args.number (tree.starts (begun p name)) c.put.ensures.event line begins.1 begins.2 in (
+    let waits = put_waits c.begin.new.names c.args.self.now _ c.put.new.self c.put.new.pending p knows refl flushed c.in-Ok.event c.args.number (tree.starts (element_begun p name)) c.put.ensures.event line begins.1 begins.2 in (
       begins.0,
       record {
-        knows = knows_flushed _ c.put.new.self c.put.new.pending.text (behind p (starts name)) flushed (record {
+        knows = knows_flushed _ c.put.new.self c.put.new.pending.text (place_behind p (starts name)) flushed (record {
           opened = begins.3;
           scope = begins.4;
           has_root = refl;

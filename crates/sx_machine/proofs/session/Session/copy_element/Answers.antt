@@ -8,10 +8,10 @@ use Rattle.sx_build.specs.Asked.{Asked}
 use Rattle.sx_machine.specs.declared.session.After.TheVariants as after
 use Rattle.sx_machine.specs.declared.session.Frame.{Frame}
 use Rattle.sx_machine.specs.declared.session.Job.TheVariants as job
-use Rattle.sx_machine.specs.Choice.{built_in}
+use Rattle.sx_machine.specs.Choice.{built_in_template}
 use Rattle.sx_machine.specs.Run.{waits, stops, ending_with}
 use Rattle.sx_machine.specs.Plan.{plan_of}
-use Rattle.sx_machine.specs.Writer.{StandsFor, asked_attributes}
+use Rattle.sx_machine.specs.Writer.{WriterStands, asked_attributes}
 use Rattle.sx_machine.specs.Meaning.{meaning_on}
 use Rattle.sx_machine.specs.Session.{Wrote, state_of}
 use Rattle.sx_machine.proofs.Machine.{asked_here}
@@ -25,9 +25,9 @@ returns-then-not-is_empty-clause-ok c = λ sheet known invocations d e given nam
     let names = c.args.names.now in
     let so_far : List Asked = (meaning_on sheet known invocations d).raw in
     let deep = before_deep c.args.left e c.if-left-eq0.true (λ none. false≢true (c.if-not-is_empty.ensures.1 (none_named names c.args.attrs (sym attributes ∙ none)))) in
-    let now = subst (λ (n : Name). StandsFor c.push.new.self (so_far ++ ask.starts n ∷ []) false given) (sym name)
+    let now = subst (λ (n : Name). WriterStands c.push.new.self (so_far ++ ask.starts n ∷ []) false given) (sym name)
     (c.in_ok-push.ensures so_far given (asked_here sheet known invocations old d given s c.requires)) in
-    start_stops sheet known invocations old d given s c.requires o _ e c.args.left (plan_of c.args.left (built_in true e)) (ask.starts e.name ∷ []) j
+    start_stops sheet known invocations old d given s c.requires o _ e c.args.left (plan_of c.args.left (built_in_template true e)) (ask.starts e.name ∷ []) j
     (ap (plan_of c.args.left) chose) deep refl refl refl now
     (c.state_with-self.ensures.state (stops error.Sxli0001) refl ∙ ap (λ (found : Option Code). state_of (ending_with found (stops error.Sxli0001))) (c.error.ensures ∙ now.error_is))
 
@@ -48,11 +48,11 @@ returns-clause-ok c = λ sheet known invocations d e given name attributes chose
       same_copying = refl;
       same_root = refl;
       wrote = λ asked given none stands.
-          let now = subst (λ (list : List Asked). StandsFor c.push_attributes.new.self list false given)
+          let now = subst (λ (list : List Asked). WriterStands c.push_attributes.new.self list false given)
           (append_assoc asked (ask.starts (name_at names c.args.label) ∷ []) (asked_attributes (attributes_at names c.args.attrs))
           ∙ ap₂ (λ (n : Name) (attrs : List Attribute). asked ++ ask.starts n ∷ asked_attributes attrs) (sym name) (sym attributes))
           (c.in_ok-push_attributes.ensures (asked ++ ask.starts (name_at names c.args.label) ∷ []) given (c.in_ok-push.ensures asked given stands)) in
           (now, c.state_with-self-2.ensures.state waits refl ∙ ap (λ (found : Option Code). state_of (ending_with found waits)) (c.error-2.ensures ∙ now.error_is));
     } in
-    start_comes sheet known invocations old d given s c.requires o _ e frame left (plan_of left (built_in true e)) more j
+    start_comes sheet known invocations old d given s c.requires o _ e frame left (plan_of left (built_in_template true e)) more j
     (ap (plan_of left) chose) (before_copy left e none_left) refl wrote c.in_ok-push-2.ensures.ok

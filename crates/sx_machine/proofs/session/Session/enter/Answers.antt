@@ -1,7 +1,7 @@
 use Rattle.std.proofs.Common.{Bool, ap, refl, sym, ◌∙◌}
 use Rattle.std.proofs.lemmas.Result.{on_ok_weaker}
 use Rattle.sx_named.specs.Named.{Name}
-use Rattle.sx_machine.specs.Choice.{built_in, body_or, matches, last_that}
+use Rattle.sx_machine.specs.Choice.{built_in_template, body_or, matches, last_that}
 use Rattle.sx_machine.specs.Plan.{plan_of}
 use Rattle.sx_machine.specs.Meaning.{is_copying_first}
 use Rattle.sx_machine.proofs.Rules.{found, not_found}
@@ -14,8 +14,8 @@ returns-in-Some-clause-ok c = on_ok_weaker c.invoke.result (λ invoked sheet kno
     let label = c.args.label in
     let is_copying = is_copying_first sheet.modes in
     invoked sheet known invocations d e given keeps
-    (λ r at. ap (λ (n : Name). plan_of c.args.left (body_or known (built_in is_copying e) (last_that (matches known n) sheet.templates))) name
-    ∙ found known c.args.names.now keeps distinct label there sheet.templates list s.ready.known s.rules_are (built_in is_copying e) c.args.left r
+    (λ r at. ap (λ (n : Name). plan_of c.args.left (body_or known (built_in_template is_copying e) (last_that (matches known n) sheet.templates))) name
+    ∙ found known c.args.names.now keeps distinct label there sheet.templates list s.ready.known s.rules_are (built_in_template is_copying e) c.args.left r
     (sym (s.places_are label.number) ∙ sym c.in-Some.ensures.found ∙ at))
     o j s) c.invoke.ensures.ok
 
@@ -25,10 +25,10 @@ returns-in-None-clause-ok c = on_ok_weaker c.copy_element.result (λ copied shee
     let label = c.args.label in
     let is_copying = is_copying_first sheet.modes in
     copied sheet known invocations d e given name attributes
-    (ap (λ (n : Name). body_or known (built_in is_copying e) (last_that (matches known n) sheet.templates)) name
-    ∙ not_found known c.args.names.now keeps distinct label there sheet.templates list s.ready.known s.rules_are (built_in is_copying e)
+    (ap (λ (n : Name). body_or known (built_in_template is_copying e) (last_that (matches known n) sheet.templates)) name
+    ∙ not_found known c.args.names.now keeps distinct label there sheet.templates list s.ready.known s.rules_are (built_in_template is_copying e)
     (sym (s.places_are label.number) ∙ sym c.in-None.ensures.found)
-    ∙ ap (λ (b : Bool). built_in b e) (sym s.copying_is ∙ c.if-self.true))
+    ∙ ap (λ (b : Bool). built_in_template b e) (sym s.copying_is ∙ c.if-self.true))
     o j s) c.copy_element.ensures.ok
 
 pub returns-in-None-2-clause-ok : goal.returns-in-None-2-clause-ok
@@ -37,8 +37,8 @@ returns-in-None-2-clause-ok c = on_ok_weaker c.push.result (λ more sheet known 
     let label = c.args.label in
     let is_copying = is_copying_first sheet.modes in
     start_passed sheet known invocations c.args.self.now d given s c.requires o _ refl refl refl e _ c.args.left j
-    (ap (λ (n : Name). body_or known (built_in is_copying e) (last_that (matches known n) sheet.templates)) name
-    ∙ not_found known c.args.names.now keeps distinct label there sheet.templates list s.ready.known s.rules_are (built_in is_copying e)
+    (ap (λ (n : Name). body_or known (built_in_template is_copying e) (last_that (matches known n) sheet.templates)) name
+    ∙ not_found known c.args.names.now keeps distinct label there sheet.templates list s.ready.known s.rules_are (built_in_template is_copying e)
     (sym (s.places_are label.number) ∙ sym c.in-None.ensures.found)
-    ∙ ap (λ (b : Bool). built_in b e) (sym s.copying_is ∙ c.if-self.false))
+    ∙ ap (λ (b : Bool). built_in_template b e) (sym s.copying_is ∙ c.if-self.false))
     refl more refl c.requires) c.push.ensures.ok

@@ -9,7 +9,7 @@ use Rattle.sx_machine.specs.declared.session.Frame.{Frame}
 use Rattle.sx_machine.specs.declared.session.Job.{Job}
 use Rattle.sx_machine.specs.Run.{Output, waits, ending_with}
 use Rattle.sx_machine.specs.Plan.{Plan, Task, read_plan, job_of, after_of, after_rule, task_of, task_for}
-use Rattle.sx_machine.specs.Writer.{StandsFor}
+use Rattle.sx_machine.specs.Writer.{WriterStands}
 use Rattle.sx_machine.specs.Session.{Wrote, state_of}
 use Rattle.sx_machine.proofs.Moves.{before_read, start_comes}
 use Rattle.sx_machine.proofs.Rules.{ReadsSame, reads_same}
@@ -37,7 +37,7 @@ returns-clause-ok c = λ sheet known invocations d e given keeps planned o j s.
       same_copying = refl;
       same_root = refl;
       wrote = λ asked given none stands.
-          let now = subst (λ (raws : List Raw). StandsFor c.push_all.new.self (asked ++ all_asked_at names raws) false given)
+          let now = subst (λ (raws : List Raw). WriterStands c.push_all.new.self (asked ++ all_asked_at names raws) false given)
           (c.as_slice-2.ensures ∙ ap (λ (x : Rule). x.plan.before) (sym c.index-as_slice-place.is)) (c.in_ok-push_all.ensures asked given stands) in
           (now, c.state_with-self.ensures.state waits refl ∙ ap (λ (found : Option Code). state_of (ending_with found waits)) (c.error.ensures ∙ now.error_is));
     } in

@@ -5,7 +5,7 @@ use Rattle.sx_machine.specs.declared.plans.Rule.{Rule}
 use Rattle.sx_machine.specs.declared.session.After.{After}
 use Rattle.sx_machine.specs.Run.{Output, waits, ending_with}
 use Rattle.sx_machine.specs.Plan.{after_at, after_rule}
-use Rattle.sx_machine.specs.Writer.{StandsFor}
+use Rattle.sx_machine.specs.Writer.{WriterStands}
 use Rattle.sx_machine.specs.Session.{state_of}
 use Rattle.sx_machine.proofs.session.Session.leave.Goals as goal
 
@@ -22,6 +22,6 @@ returns-in_ok-push_all-in-Rule-clause-ok c =
       same_copying = refl;
       same_root = refl;
       wrote = λ asked given none stands.
-          let now = subst (λ (list : List Asked). StandsFor c.push_all.new.self (asked ++ list) false given) same (c.in_ok-push_all-in-Rule.ensures asked given stands) in
+          let now = subst (λ (list : List Asked). WriterStands c.push_all.new.self (asked ++ list) false given) same (c.in_ok-push_all-in-Rule.ensures asked given stands) in
           (now, c.state_with-self.ensures.state waits refl ∙ ap (λ (found : Option Code). state_of (ending_with found waits)) (c.error.ensures ∙ now.error_is));
     }

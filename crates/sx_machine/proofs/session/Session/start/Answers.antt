@@ -7,14 +7,14 @@ use Rattle.sx_machine.specs.declared.session.Session.{Session}
 use Rattle.sx_machine.specs.Meaning.{is_copying_first, meaning_on}
 use Rattle.sx_machine.specs.Plan.{AreRulesOf}
 use Rattle.sx_machine.specs.Run.{result_of}
-use Rattle.sx_machine.specs.Writer.{StandsFor}
+use Rattle.sx_machine.specs.Writer.{WriterStands}
 use Rattle.sx_machine.specs.Session.{Builds, first_state, state_of}
 use Rattle.sx_machine.proofs.Places.{finds_last}
 use Rattle.sx_machine.proofs.session.Session.start.Goals as goal
 use Rattle.sx_names.specs.Numbering.{NameTable}
 
 -- nothing was asked for yet
-builds_nothing : (sheet : Sheet) (names : NameTable) (invocations : ℕ) (s : Session) → StandsFor s.writer [] false 0 →
+builds_nothing : (sheet : Sheet) (names : NameTable) (invocations : ℕ) (s : Session) → WriterStands s.writer [] false 0 →
     Builds s (meaning_on sheet names invocations empty_document).raw (result_of (meaning_on sheet names invocations empty_document)) 0
 builds_nothing sheet names zero s stands = record { asked = []; at_end = false; stands = stands; built_is = refl; all_asked = λ _. (refl, refl) }
 builds_nothing sheet names (suc left) s stands = record { asked = []; at_end = false; stands = stands; built_is = refl; all_asked = λ _. (refl, refl) }

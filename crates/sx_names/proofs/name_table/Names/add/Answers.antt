@@ -2,7 +2,7 @@ use Rattle.std.proofs.Common.{◌≡◌, ◌∷◌, [], ◌++◌, inr, length, a
 use Rattle.std.proofs.lemmas.List.{length-map}
 use Rattle.std.proofs.lemmas.Result.{err_from_is_err_and}
 use Rattle.sx_names.specs.Numbering.{IsAbsent}
-use Rattle.sx_names.specs.Inside.{name_of, names_of, AreNames}
+use Rattle.sx_names.specs.Inside.{entry_of, entries_of, AreNames}
 use Rattle.sx_names.proofs.Places.{KeepsPlaces-refl}
 use Rattle.sx_names.proofs.NameLemmas.{names_of-grown, AreNames-grown, added_name}
 use Rattle.sx_names.proofs.name_table.Names.add.Goals as goal
@@ -39,12 +39,12 @@ pub returns-in_err-insert : goal.returns-in_err-insert
 returns-in_err-insert c =
     let p = err_from_is_err_and c.from_residual-in_err-insert.result c.from_residual-in_err-insert.ensures.1 in
     let i = c.self.inside in
-    rw p.1 (ap (names_of c.hold.new.self c.hold-2.new.self) c.in_err-insert.ensures.err
+    rw p.1 (ap (entries_of c.hold.new.self c.hold-2.new.self) c.in_err-insert.ensures.err
     ∙ names_of-grown i.uris c.hold.new.self i.locals c.hold-2.new.self c.hold.ensures.kept c.hold-2.ensures.kept i.parts.keys c.self.invariant.within ∙ c.self.view_is)
 
 -- the name goes last
 added : (c : goal.In_ok-insert) → AreNames c.hold.new.self c.hold-2.new.self c.insert.new.self.keys
-    × (names_of c.hold.new.self c.hold-2.new.self c.insert.new.self.keys ≡ names_of c.self.inside.uris c.self.inside.locals c.self.inside.parts.keys ++ (c.args.uri.now, c.args.local.now) ∷ [])
+    × (entries_of c.hold.new.self c.hold-2.new.self c.insert.new.self.keys ≡ entries_of c.self.inside.uris c.self.inside.locals c.self.inside.parts.keys ++ (c.args.uri.now, c.args.local.now) ∷ [])
 added c =
     let i = c.self.inside in
     added_name i.uris c.hold.new.self i.locals c.hold-2.new.self c.hold.ensures.kept c.hold-2.ensures.kept i.parts.keys c.insert.new.self.keys
@@ -59,6 +59,6 @@ returns c =
     let i = c.self.inside in
     inr (
       c.requires,
-      c.len-number.ensures.len ∙ sym (length-map i.parts.keys (name_of i.uris i.locals)) ∙ ap length c.self.view_is,
+      c.len-number.ensures.len ∙ sym (length-map i.parts.keys (entry_of i.uris i.locals)) ∙ ap length c.self.view_is,
       (added c).1 ∙ ap (λ ns. ns ++ (c.args.uri.now, c.args.local.now) ∷ []) c.self.view_is,
     )

@@ -1,6 +1,6 @@
 use Rattle.std.proofs.Common.{◌≡◌, ◌↔◌, Some, slice_get, sym, subst}
 use Rattle.sx_names.specs.Numbering.{IsAbsent}
-use Rattle.sx_names.specs.Inside.{names_of}
+use Rattle.sx_names.specs.Inside.{entries_of}
 use Rattle.sx_names.proofs.Places.{exact_where_absent, exact_where_placed}
 use Rattle.sx_names.proofs.NameLemmas.{absent_by_uri, absent_by_local, absent_by_parts, absent_parts, found_parts, name_place}
 use Rattle.sx_names.proofs.name_table.Names.find.Goals as goal
@@ -49,4 +49,4 @@ returns-clause-found c = λ n.
     let p = found_parts i.parts.keys (record { uri = c.in_ok-uri.uri; local = c.in_ok-local.local }) c.in_ok-number.number (sym c.in_ok-number.ensures.index) in
     let placed = name_place i.uris i.locals i.parts.keys c.in_ok-number.number (record { uri = c.in_ok-uri.uri; local = c.in_ok-local.local }) c.args.uri.now c.args.local.now p c.in_ok-uri.ensures.found c.in_ok-local.ensures.found in
     subst (λ ns. (Some c.in_ok-number.number ≡ Some n) ↔ (slice_get ns n ≡ Some (c.args.uri.now, c.args.local.now))) c.self.view_is
-    (exact_where_placed (names_of i.uris i.locals i.parts.keys) (c.args.uri.now, c.args.local.now) c.in_ok-number.number n c.self.invariant.names_distinct placed)
+    (exact_where_placed (entries_of i.uris i.locals i.parts.keys) (c.args.uri.now, c.args.local.now) c.in_ok-number.number n c.self.invariant.names_distinct placed)
