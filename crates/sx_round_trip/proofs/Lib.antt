@@ -1,0 +1,13 @@
+pub mod Escaped
+pub mod Said
+pub mod PrintedLines
+pub mod PrintedEvents
+pub mod Happenings
+pub mod Askings
+pub mod Buildings
+pub mod Bindings
+pub mod Starts
+pub mod Copies
+pub mod Texts
+pub mod Courses
+pub mod Again
