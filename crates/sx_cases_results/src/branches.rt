@@ -1,7 +1,8 @@
 // Open trees and spines.
 ghost use Rattle.std.specs.Prelude.{◌≡◌, ◌<◌, ◌-◌, ◌^◌, true};
-ghost use Rattle.sx_tree.specs.Events.{MayFollow, is_text, tree_event, tree_events};
-ghost use Rattle.sx_cases_results.specs.Growing.{IsKnownGrowth, elements_after, goes_on_after};
+ghost use Rattle.sx_tree.specs.Events.{tree_event};
+ghost use Rattle.sx_tree.specs.OpenTree.{MayComeNext};
+ghost use Rattle.sx_tree.specs.Places.{Places, put_event};
 
 use crate::notation::{append_word, chars_of, label_of};
 use sqlite_items::Items;
@@ -76,82 +77,54 @@ fn event_of(alloc: Global, names: &mut Names, text: &str) -> Result<Event, Alloc
     Ok(Event::Close)
 }
 
-// How many elements are open behind an event.
-fn elements_behind(elements: u64, event: &Event) -> u64
-    requires { elements < 2 ^ 64 - 1 }
-    ensures { result ≡ elements_after elements event.now }
+// How many nodes are open behind an event.
+fn level_behind(level: u64, event: &Event) -> u64
+    requires { level < 2 ^ 64 - 1 }
+    ensures { (t : Places) → level ≡ t.level → result ≡ (put_event t (tree_event event.now)).level }
 {
     match event {
-        Event::Start { .. } => elements + 1,
-        Event::End => elements.saturating_sub(1),
-        Event::Text(_) => elements,
-        Event::Pi { .. } => elements,
-        Event::Close => elements,
+        Event::Start { .. } => level + 1,
+        Event::End => level.saturating_sub(1),
+        Event::Text(_) => level,
+        Event::Pi { .. } => level,
+        Event::Close => level.saturating_sub(1),
     }
 }
 
-// Whether an event is a text.
-fn is_text_event(event: &Event) -> bool
-    ensures { result ≡ is_text (tree_event event.now) }
-{
-    match event {
-        Event::Start { .. } => false,
-        Event::End => false,
-        Event::Text(_) => true,
-        Event::Pi { .. } => false,
-        Event::Close => false,
-    }
-}
-
-// Whether the document is open behind an event.
-fn goes_on(event: &Event) -> bool
-    ensures { result ≡ goes_on_after event.now }
-{
-    match event {
-        Event::Start { .. } => true,
-        Event::End => true,
-        Event::Text(_) => true,
-        Event::Pi { .. } => true,
-        Event::Close => false,
-    }
-}
-
-// An open tree, and what is known of it: how many elements are open, whether its last event is a text, and whether the
-// document is open.
+/// An open tree, how many of its nodes are open, and whether its last event is a text.
 #[derive(Drop)]
-struct Growing {
-    tree: OpenTree,
-    elements: u64,
+pub struct Growing {
+    pub tree: OpenTree,
+    level: u64,
     behind_text: bool,
-    is_open: bool,
-    ghost known: { IsKnownGrowth tree.events elements behind_text is_open },
+    ghost known: { level ≡ tree.places.level },
 }
 
 impl Growing {
-    fn new(alloc: Global, limit: u32) -> Growing {
-        Growing {
-            tree: OpenTree::new(alloc, limit as u64),
-            elements: 0,
+    /// A document node.
+    pub fn new(alloc: Global, limit: u32) -> Result<Growing, AllocError> {
+        Ok(Growing {
+            tree: OpenTree::new(alloc, limit as u64)?,
+            level: 1,
             behind_text: false,
-            is_open: true,
-        }
+        })
     }
 
     // Whether an event may come next.
     fn allows(&self, event: &Event) -> bool
         ensures follows { result ≡ true
-            → MayFollow (tree_events self.now.tree.events) (tree_event event.now) }
-        ensures room { result ≡ true → self.now.elements < 2 ^ 64 - 1 }
+            → MayComeNext self.now.tree.places (tree_event event.now) }
+        ensures room { result ≡ true → self.now.level < 2 ^ 64 - 1 }
     {
-        if !self.is_open || self.elements == u64::MAX {
+        if self.level == 0 || self.level == u64::MAX {
             return false;
         }
         match event {
             Event::Start { .. } => true,
-            Event::End => self.elements > 0,
+            Event::End => self.level > 1,
             Event::Text(text) => !self.behind_text && !text.as_str().is_empty(),
             Event::Pi { .. } => true,
-            Event::Close => self.elements == 0,
+            Event::Close => self.level == 1,
         }
     }
 
@@ -162,9 +135,8 @@ impl Growing {
         }
         match self.tree.push(event)? {
             Ok(()) => {
-                self.elements = elements_behind(self.elements, event);
-                self.behind_text = is_text_event(event);
-                self.is_open = goes_on(event);
+                self.level = level_behind(self.level, event);
+                self.behind_text = matches!(event, Event::Text(_));
                 Ok("ok")
             }
             Err(_) => Ok("full"),
@@ -183,8 +155,8 @@ fn added(
     growing.add(&event)
 }
 
-// Adds events, and gives the answers.
-fn all_added(
+/// Adds events, and gives the answers.
+pub fn all_added(
     alloc: Global,
     names: &mut Names,
     growing: &mut Growing,
@@ -219,7 +191,7 @@ fn grown(alloc: Global, mut growing: Growing, events: &str) -> Result<String, Al
 pub fn tree(alloc: Global, text: &str) -> Result<String, AllocError> {
     let (limit, events) = text.split_once(' ').unwrap_or((text, ""));
     let limit = limit.parse::<u32>().unwrap_or(0);
-    grown(alloc, Growing::new(alloc, limit), events)
+    grown(alloc, Growing::new(alloc, limit)?, events)
 }
 
 // What a push of an entry is answered with: how many entries there are, or that there is no room.
@@ -271,8 +243,8 @@ fn repeated(alloc: Global, spine: &mut Spine, word: &str) -> Result<String, Allo
     Ok(answer)
 }
 
-// The answers to words in turn.
-fn all_branched(alloc: Global, spine: &mut Spine, words: &str) -> Result<String, AllocError> {
+/// The answers to words in turn.
+pub fn all_branched(alloc: Global, spine: &mut Spine, words: &str) -> Result<String, AllocError> {
     let mut out = String::new(alloc);
     for word in words.split(' ') {
         let answer = repeated(alloc, spine, word)?;

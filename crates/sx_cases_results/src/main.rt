@@ -6,6 +6,7 @@ mod branches;
 mod copies;
 mod documents;
 mod naming;
+mod nodes;
 mod notation;
 mod printed;
 mod sources;
@@ -26,6 +27,8 @@ fn answer(alloc: Global, word: &str, text: &str) -> Result<String, AllocError> {
         "fault" => documents::fault(alloc, text),
         "tree" => branches::tree(alloc, text),
         "spine" => branches::spine(alloc, text),
+        "nodes" => nodes::tree(alloc, text),
+        "spine-nodes" => nodes::spine(alloc, text),
         "sheet" => copies::sheet(alloc, text),
         "chain" => copies::chain(alloc, text),
         "build" => asked::at_the_end(alloc, text),

@@ -176,19 +176,26 @@ module _ (t u : Places) (x : Extends t u) (k : ℕ) (within : k < length t.entri
   pub inside-more : (more : List Entry) × (inside u k ≡ inside t k ++ more)
   inside-more = let (more, is) = inner-append (depth_at t.entries k) (behind_place t k) x.more in (more, inside-now ∙ is)
 
+  -- it is open where it is the last of a depth that is open
+  open_here : is_open_place t k ≡ false → (nat_lt (depth_at t.entries k) t.level && all_deeper (depth_at t.entries k) (behind_place t k)) ≡ false
+  open_here is =
+      let here : nat_lt k (length t.entries) ≡ true = grind (arith, nat_tests, within) in
+      ap (λ (b : Bool). b && (nat_lt (depth_at t.entries k) t.level && all_deeper (depth_at t.entries k) (behind_place t k))) (sym here) ∙ is
+
   -- and where it has ended, it stays as it is
   pub inside-same : is_open_place t k ≡ false → inside u k ≡ inside t k
   inside-same is =
       inside-now
       ∙ inner-same (depth_at t.entries k) (behind_place t k) x.more
       (λ all. begins-deeper t.level (depth_at t.entries k) x.more
-      (closed_level (depth_at t.entries k) t.level (all_deeper (depth_at t.entries k) (behind_place t k)) is all) x.begins)
+      (closed_level (depth_at t.entries k) t.level (all_deeper (depth_at t.entries k) (behind_place t k)) (open_here is) all) x.begins)
 
   -- nor is it open again
   pub closed-same : is_open_place t k ≡ false → is_open_place u k ≡ false
   closed-same is =
-      ap₂ (λ (d : ℕ) (es : List Entry). nat_lt d u.level && all_deeper d es) depth-same behind-more
-      ∙ stays_closed (depth_at t.entries k) t.level u.level (behind_place t k) x.more (all_deeper (depth_at t.entries k) (behind_place t k)) refl is x.begins x.level
+      closed-deeper (nat_lt k (length u.entries)) (nat_lt (depth_at u.entries k) u.level && all_deeper (depth_at u.entries k) (behind_place u k))
+      (ap₂ (λ (d : ℕ) (es : List Entry). nat_lt d u.level && all_deeper d es) depth-same behind-more
+      ∙ stays_closed (depth_at t.entries k) t.level u.level (behind_place t k) x.more (all_deeper (depth_at t.entries k) (behind_place t k)) refl (open_here is) x.begins x.level)
 
 -- More nodes, and nothing that has ended is open.
 pub places_of-grow : (p q : List (TreeEvent Element)) → PlacesGrow (places_of p) (places_of (p ++ q))

@@ -1,7 +1,13 @@
 pub mod Open
 pub mod Follow
-pub mod Count
 pub mod Mapping
 pub mod Listing
 pub mod Stepping
 pub mod Extending
+pub mod Coming
+pub mod Nearby
+pub mod SpineNodes
+pub mod Depths
+pub mod Growing
+pub mod Ending
+pub mod Counting

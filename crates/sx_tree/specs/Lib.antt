@@ -7,3 +7,9 @@ pub mod Mapping
 pub mod Places
 pub mod TreeView
 pub mod Growth
+pub mod Seen
+pub mod Copies
+pub mod Labels
+pub mod Rows
+pub mod Begun
+pub mod SpineView

@@ -1,38 +1,19 @@
--- What a contract sees of an open tree, and how many nodes a tree has.
-use Rattle.std.specs.Prelude.{ℕ, ◌+◌, Bool, true, false, ◌||◌, List, length}
-use Rattle.sx_tree.specs.declared.events.Event.{Event}
-use Rattle.sx_tree.specs.Events.{Element, tree_events}
-use Rattle.sx_tree.specs.Tree.{Forest, none, text, instruction, element, Document, has_open, tree_of}
+-- What a contract sees of a tree that grows, and what may happen in it next.
+use Rattle.std.specs.Prelude.{◌≡◌, ℕ, ◌<◌}
+use Rattle.sx_tree.specs.Events.{Element}
+use Rattle.sx_tree.specs.Places.{Places}
+use Rattle.sx_tree.specs.Tree.{TreeEvent, starts, ends, says, instructs, closes}
 
--- the greatest number of nodes, and the events that made the tree
-pub record OpenTree : Type 0 where
+-- the greatest number of nodes, and the nodes that are there
+pub record Table : Type 0 where
   pub limit : ℕ
-  pub events : List Event
+  pub places : Places
 
--- the events that made a tree in which no node is open
-pub record NodeTable : Type 0 where
-  pub events : List Event
-
--- the tree of the events
-abbrev pub tree : OpenTree → Document Element
-tree t = tree_of (tree_events t.events)
-
--- the closed tree of the events
-abbrev pub closed_tree : NodeTable → Document Element
-closed_tree t = tree_of (tree_events t.events)
-
--- whether the document node or an element is open
-abbrev pub has_open_node : {E : Type 0} → Document E → Bool
-has_open_node d = d.is_open || has_open d.content
-
--- how many nodes these are: a text, a processing instruction, an element, and each of its attributes is one
-abbrev pub node_count : Forest Element → ℕ
-node_count none = 0
-node_count (text s rest) = 1 + node_count rest
-node_count (instruction target content rest) = 1 + node_count rest
-node_count (element e true kids rest) = 1 + length e.attrs + node_count kids
-node_count (element e false kids rest) = 1 + length e.attrs + node_count kids + node_count rest
-
--- how many nodes a document has, its document node among them
-abbrev pub document_count : Document Element → ℕ
-document_count d = 1 + node_count d.content
+-- What this asks of a tree in which it happens: nodes begin where one is open, an element ends where one is, and the document
+-- ends where no element is open. What may follow events may come next in their tree.
+abbrev pub MayComeNext : Places → TreeEvent Element → Type 0
+MayComeNext t (starts e) = 0 < t.level
+MayComeNext t ends = 1 < t.level
+MayComeNext t (says s) = 0 < t.level
+MayComeNext t (instructs target content) = 0 < t.level
+MayComeNext t closes = t.level ≡ 1

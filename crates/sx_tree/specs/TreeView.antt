@@ -1,6 +1,6 @@
 -- What is seen of a tree at one of its nodes (XDM 3.1, 5 and 6). A node is its place in the list of nodes, or the number of
 -- an attribute of the element at a place.
-use Rattle.std.specs.Prelude.{ℕ, zero, suc, ◌<◌, Bool, true, false, ◌&&◌, nat_lt, nat_eq, List, [], ◌∷◌, length, drop, slice_get, Option, Some, None, if◌then◌else◌}
+use Rattle.std.specs.Prelude.{◌≡◌, ℕ, zero, suc, ◌<◌, ◌≤◌, ◌^◌, Bool, true, false, ◌&&◌, nat_lt, nat_eq, List, [], ◌∷◌, length, drop, slice_get, Option, Some, None, if◌then◌else◌}
 use Rattle.std.specs.Option.{option_map_or}
 use Rattle.sx_tree.specs.declared.events.Attr.{Attr}
 use Rattle.sx_tree.specs.declared.nodes.Node.{Node}
@@ -60,9 +60,18 @@ inside_places t k = places_that (λ e. true) (suc k) (inside t k)
 abbrev pub outer_places : Places → ℕ → List ℕ
 outer_places t k = outward t.entries (depth_at t.entries k) k
 
--- it is open: it is the last of a depth that is open
+-- it is open: a node of the tree, and the last of a depth that is open
 abbrev pub is_open_place : Places → ℕ → Bool
-is_open_place t k = nat_lt (depth_at t.entries k) t.level && all_deeper (depth_at t.entries k) (behind_place t k)
+is_open_place t k = nat_lt k (length t.entries) && (nat_lt (depth_at t.entries k) t.level && all_deeper (depth_at t.entries k) (behind_place t k))
+
+-- the places, from k on, of the siblings among nodes that stand behind one of this depth
+abbrev pub later_siblings : ℕ → ℕ → List Entry → List ℕ
+later_siblings zero k es = []
+later_siblings (suc d) k es = places_that (λ e. nat_eq e.depth (suc d)) k (inner d es)
+
+-- its siblings behind it
+abbrev pub sibling_places : Places → ℕ → List ℕ
+sibling_places t k = later_siblings (depth_at t.entries k) (suc k) (behind_place t k)
 
 -- the attributes of an element, and none of another node
 abbrev pub attributes_of : Content → List Attr
@@ -91,3 +100,13 @@ content_at t (node.Attr k i) = option_map_or (λ a. Some (attribute a)) (slice_g
 abbrev pub is_open_node : Places → Node → Bool
 is_open_node t (node.At k) = is_open_place t k
 is_open_node t (node.Attr k i) = false
+
+-- ---- trees
+
+-- Depths go inward: the first node has none, and each other one has some and is at most one deeper than the one before it. The
+-- numbers of places and of attributes are below 2^32.
+pub record IsTree (es : List Entry) : Type 0 where
+  pub first : depth_at es 0 ≡ 0
+  pub inward : (k : ℕ) → suc k < length es → (0 < depth_at es (suc k)) × (depth_at es (suc k) ≤ suc (depth_at es k))
+  pub few : length es < 2 ^ 32
+  pub few_attributes : (k : ℕ) (e : Entry) → slice_get es k ≡ Some e → length (attributes_of e.content) < 2 ^ 32

@@ -1,6 +1,7 @@
 // The spine: the open nodes, and the last node that cannot be open.
 ghost use Rattle.std.specs.Prelude.{◌≡◌, ◌<◌, ◌≤◌, ◌↔◌, [], ◌∷◌, ◌++◌, None};
-ghost use Rattle.std.specs.Prelude.{length, IsOk, IfErr, OnOk, OnErr};
+ghost use Rattle.std.specs.Prelude.{length, slice_get, IsOk, IfErr, OnOk, OnErr};
+ghost use Rattle.std.specs.Option.{option_copied};
 ghost use Rattle.sx_tree.specs.declared.ancestors.SpineItem.TheVariants as spine_item;
 
 use crate::{Attrs, Chars, Label};
@@ -91,6 +92,20 @@ impl Spine {
         ensures entries { self.new.entries ≡ self.old.entries }
     {
         self.leaf = leaf;
+    }
+
+    // The entry at a place.
+    pub(crate) fn item(&self, k: u32) -> Option<&SpineItem>
+        ensures { option_copied result ≡ slice_get self.now.entries k }
+    {
+        self.items.get(k as usize)
+    }
+
+    // The leaf.
+    pub(crate) fn leaf(&self) -> Option<&Leaf>
+        ensures { option_copied result ≡ self.now.leaf }
+    {
+        self.leaf.as_ref()
     }
 
     /// The number of entries, at most 201.

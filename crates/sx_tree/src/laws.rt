@@ -1,7 +1,8 @@
 // What the definitions come to.
 ghost use Rattle.std.specs.Prelude.{List, [], ◌++◌};
-ghost use Rattle.sx_tree.specs.Events.{Element};
+ghost use Rattle.sx_tree.specs.Events.{Element, MayFollow};
 ghost use Rattle.sx_tree.specs.Growth.{ListsTree, IsInStep, MayCome, PlacesGrow};
+ghost use Rattle.sx_tree.specs.OpenTree.{MayComeNext};
 ghost use Rattle.sx_tree.specs.Places.{places_of};
 ghost use Rattle.sx_tree.specs.Tree.{TreeEvent};
 
@@ -17,6 +18,11 @@ pub fn steps()
 
 /// More events only add nodes, and what has ended stays so.
 pub fn growth()
-    ensures { (p q : List (TreeEvent Element)) → MayCome [] p → MayCome p q
-        → PlacesGrow (places_of p) (places_of (p ++ q)) }
+    ensures { (p q : List (TreeEvent Element)) → PlacesGrow (places_of p) (places_of (p ++ q)) }
+{}
+
+/// What may follow events may come next in their tree.
+pub fn follows()
+    ensures { (p : List (TreeEvent Element)) (h : TreeEvent Element) → MayCome [] p → MayFollow p h
+        → MayComeNext (places_of p) h }
 {}

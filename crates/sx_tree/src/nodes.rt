@@ -7,3 +7,13 @@ pub enum Node {
     At(u32),
     Attr(u32, u32),
 }
+
+/// The kinds of nodes (XDM 3.1, 6).
+#[derive(Clone, Copy, Debug, PartialEq, Eq)]
+pub enum Kind {
+    Document,
+    Element,
+    Attribute,
+    Text,
+    Pi,
+}
