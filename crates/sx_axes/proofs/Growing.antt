@@ -5,6 +5,7 @@ use Rattle.sx_axes.specs.Axes.{at_places, attributes, attribute_nodes, as_list, 
 use Rattle.sx_axes.specs.declared.ends.SelEnd.{SelEnd}
 use Rattle.sx_axes.specs.declared.ends.SelEnd.TheVariants as end
 use Rattle.sx_axes.specs.Growth.{goes_in_or_out, Continues}
+use Rattle.sx_axes.proofs.Passing.{passing-append}
 use Rattle.sx_axes.proofs.Within.{AllBelow, AllNodes, nodes_at, below-children, below-inside, below-outer, below-first, nodes-attributes}
 use Rattle.sx_names.specs.Numbering.{NameTable}
 use Rattle.sx_tree.specs.declared.events.Attr.{Attr}
@@ -25,7 +26,8 @@ that-first true k ks js more is = ap (λ (l : List ℕ). k ∷ l) is
 that-first false k ks js more is = is
 
 -- of a longer list, the same pass first
-places_that-append : (test : Entry → Bool) (k : ℕ) (es fs : List Entry) → (more : List ℕ) × (places_that test k (es ++ fs) ≡ places_that test k es ++ more)
+places_that-append : (test : Entry → Bool) (k : ℕ) (es fs : List Entry)
+    → (more : List ℕ) × (places_that test k (es ++ fs) ≡ places_that test k es ++ more)
 places_that-append test k [] fs = (places_that test k fs, refl)
 places_that-append test k (e ∷ es) fs =
     let (more, is) = places_that-append test (suc k) es fs in
@@ -79,18 +81,6 @@ module _ (t u : Places) (x : Extends t u) where
     passing-same (n ∷ ns) are =
         ap₂ (λ (o : Option Content) (ms : List Node). cond (option_map_or (passes names a test) o false) (n ∷ ms) ms)
         (content_at-same n are.0) (passing-same ns are.1)
-
-    -- one more in front, if it passes
-    passing-first : (b : Bool) (n : Node) (ms ns os : List Node) → os ≡ ms ++ ns → cond b (n ∷ os) os ≡ cond b (n ∷ ms) ms ++ ns
-    passing-first true n ms ns os is = ap (λ (l : List Node). n ∷ l) is
-    passing-first false n ms ns os is = is
-
-    -- nodes in two parts
-    passing-append : (ms ns : List Node) → passing names u a test (ms ++ ns) ≡ passing names u a test ms ++ passing names u a test ns
-    passing-append [] ns = refl
-    passing-append (m ∷ ms) ns =
-        passing-first (option_map_or (passes names a test) (content_at u m) false) m
-        (passing names u a test ms) (passing names u a test ns) (passing names u a test (ms ++ ns)) (passing-append ms ns)
 
   -- ---- an axis
 
@@ -153,7 +143,8 @@ module _ (t u : Places) (x : Extends t u) where
       (more, ap (λ (es : List Entry). places_that (λ e. true) (suc k) es) goes ∙ is)
 
   -- and where the node has ended, it is the same
-  inside_places-same : (k : ℕ) → k < length t.entries → any_open t (k ∷ inside_places t k) ≡ false → inside_places u k ≡ inside_places t k
+  inside_places-same : (k : ℕ) → k < length t.entries → any_open t (k ∷ inside_places t k) ≡ false
+      → inside_places u k ≡ inside_places t k
   inside_places-same k within shut =
       ap (λ (es : List Entry). places_that (λ e. true) (suc k) es)
       (inside-same t u x k within (or-first (is_open_place t k) (any_open t (inside_places t k)) shut))
@@ -239,15 +230,17 @@ module _ (t u : Places) (x : Extends t u) where
   is_done false is = refl
 
   -- the same nodes with the same end are the same
-  same_along : (ms ns : List Node) (d e : SelEnd) → ms ≡ ns → d ≡ e → (let r : Along = record { nodes = ms; end = d } in r) ≡ record { nodes = ns; end = e }
+  same_along : (ms ns : List Node) (d e : SelEnd) → ms ≡ ns → d ≡ e
+      → (let r : Along = record { nodes = ms; end = d } in r) ≡ record { nodes = ns; end = e }
   same_along ms ns d e are is = ap₂ (λ (ms : List Node) (d : SelEnd). let r : Along = record { nodes = ms; end = d } in r) are is
 
   -- what passes of such an axis
-  continues-by : (names : NameTable) (a : Axis) (test : NodeTest) (n : Node) → Goes a n → Continues (axis_from names t a test n) (axis_from names u a test n)
+  continues-by : (names : NameTable) (a : Axis) (test : NodeTest) (n : Node) → Goes a n
+      → Continues (axis_from names t a test n) (axis_from names u a test n)
   continues-by names a test n goes = record {
     more = passing names u a test goes.more;
     front = ap (λ (ns : List Node). passing names u a test ns) goes.front
-        ∙ passing-append names a test (along t a n) goes.more
+        ∙ passing-append names u a test (along t a n) goes.more
         ∙ ap (λ (ns : List Node). ns ++ passing names u a test goes.more) (passing-same names a test (along t a n) goes.nodes);
     done = λ is.
         let shut = is_done (any_open t (listed_from t a n)) is in

@@ -1,2 +1,10 @@
+pub mod Numbers
+pub mod Passing
+pub mod Chains
+pub mod Openness
+pub mod Spans
+pub mod Parents
+pub mod Backward
 pub mod Within
 pub mod Growing
+pub mod Sorted

@@ -64,7 +64,7 @@ module _ (t : Places) (k : ℕ) (within : k < length t.entries) where
 -- ---- outward
 
 -- what is met going back is below where it began
-below-outward : (n : ℕ) (es : List Entry) (d k : ℕ) → k ≤ n → AllBelow n (outward es d k)
+pub below-outward : (n : ℕ) (es : List Entry) (d k : ℕ) → k ≤ n → AllBelow n (outward es d k)
 below-outward n es d zero within = tt
 below-outward n es d (suc k) within =
     outward-next (nat_lt (depth_at es k) d) (outward es (depth_at es k) k) (outward es d k)

@@ -1,5 +1,5 @@
 -- What more events do to axes.
-use Rattle.std.specs.Prelude.{◌≡◌, ◌++◌, Bool, true, false, List, []}
+use Rattle.std.specs.Prelude.{◌≡◌, ◌++◌, Bool, true, false, List}
 use Rattle.sx_axes.specs.Axes.{Along, axis_from}
 use Rattle.sx_axes.specs.declared.ends.SelEnd.TheVariants as end
 use Rattle.sx_names.specs.Numbering.{NameTable}
@@ -8,7 +8,6 @@ use Rattle.sx_tree.specs.declared.steps.Axis.TheVariants as axis
 use Rattle.sx_tree.specs.declared.steps.NodeTest.{NodeTest}
 use Rattle.sx_tree.specs.declared.nodes.Node.{Node}
 use Rattle.sx_tree.specs.Events.{Element}
-use Rattle.sx_tree.specs.Growth.{MayCome}
 use Rattle.sx_tree.specs.Places.{places_of}
 use Rattle.sx_tree.specs.TreeView.{IsNode}
 use Rattle.sx_tree.specs.Tree.{TreeEvent}
@@ -37,6 +36,5 @@ pub record Continues (first second : Along) : Type 0 where
 -- From a node of the tree of what has happened, an axis that goes in or out gives the same on the tree of more, and behind it more.
 abbrev pub AxesGrow : Type 0
 AxesGrow =
-    (names : NameTable) (p q : List (TreeEvent Element)) → MayCome [] p → MayCome p q
-    → (n : Node) → IsNode (places_of p) n → (a : Axis) → goes_in_or_out a ≡ true → (t : NodeTest)
+    (names : NameTable) (p q : List (TreeEvent Element)) (n : Node) → IsNode (places_of p) n → (a : Axis) → goes_in_or_out a ≡ true → (t : NodeTest)
     → Continues (axis_from names (places_of p) a t n) (axis_from names (places_of (p ++ q)) a t n)

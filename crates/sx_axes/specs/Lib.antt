@@ -1,2 +1,5 @@
 pub mod Axes
 pub mod Growth
+pub mod Sought
+pub mod Ways
+pub mod Order

@@ -2,6 +2,7 @@
 #![tactic(auto)]
 
 mod asked;
+mod axes;
 mod branches;
 mod copies;
 mod documents;
@@ -29,6 +30,9 @@ fn answer(alloc: Global, word: &str, text: &str) -> Result<String, AllocError> {
         "spine" => branches::spine(alloc, text),
         "nodes" => nodes::tree(alloc, text),
         "spine-nodes" => nodes::spine(alloc, text),
+        "axis" => axes::axis(alloc, text),
+        "spine-axis" => axes::of_spine(alloc, text),
+        "order" => axes::order(alloc, text),
         "sheet" => copies::sheet(alloc, text),
         "chain" => copies::chain(alloc, text),
         "build" => asked::at_the_end(alloc, text),

@@ -5,8 +5,8 @@ use std::alloc::{AllocError, Global};
 use sx_names::Names;
 use sx_tree::{Chars, Label, LabelView, Node, Spine, Tree};
 
-// Appends a node: its place, or that of its element and its number behind a point.
-fn show_node(out: &mut String, n: Node) -> Result<(), AllocError> {
+/// Appends a node: its place, or that of its element and its number behind a point.
+pub fn show_node(out: &mut String, n: Node) -> Result<(), AllocError> {
     let text = match n {
         Node::At(k) => format!(in *out.allocator(); "{k}")?,
         Node::Attr(k, i) => format!(in *out.allocator(); "{k}.{i}")?,

@@ -1,0 +1,10 @@
+use Rattle.std.proofs.Common.{ap, ◌∙◌}
+use Rattle.sx_axes.proofs.Chains.{place_in-at}
+use Rattle.sx_axes.proofs.walks.child_place.Goals as goal
+use Rattle.sx_axes.specs.Ways.{place_in}
+use Rattle.sx_tree.specs.TreeView.{first_place, child_places}
+
+pub returns : goal.returns
+returns g c =
+    let t = g.T.Tree.places c.args.t.now in
+    c.place_in.ensures ∙ ap place_in c.first_child.ensures ∙ place_in-at (first_place (child_places t c.args.place))
