@@ -1,0 +1,12 @@
+pub mod Items
+pub mod Env
+pub mod Strings
+pub mod Order
+pub mod Loops
+pub mod Copying
+pub mod Operators
+pub mod Steps
+pub mod Folds
+pub mod Calls
+pub mod Evaluation
+pub mod Examples
