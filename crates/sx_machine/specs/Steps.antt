@@ -1,5 +1,5 @@
 -- What each event makes of a session that stands for an open document.
-use Rattle.std.specs.Prelude.{◌≡◌, ℕ, ◌<◌, suc, Bool, true, false, List, length, map, slice_get, Some}
+use Rattle.std.specs.Prelude.{◌≡◌, ℕ, ◌<◌, suc, true, false, List, length, map, slice_get, Some}
 use Rattle.sx_kinds.specs.declared.sheets.Sheet.{Sheet}
 use Rattle.sx_machine.specs.Choice.{chosen_for, built_in_template}
 use Rattle.sx_machine.specs.Meaning.{is_copying_first}
